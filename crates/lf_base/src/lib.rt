@@ -1,0 +1,15 @@
+//! The ids, values, lists and refusals that every layer of Lungfish speaks of.
+//!
+//! It stands on no other crate of Lungfish. Its types are plain data. What each
+//! one promises: a list type is, to contracts, the list of its items.
+#![tactic(auto)]
+
+mod ids;
+mod lists;
+mod memory;
+mod refusals;
+
+pub use ids::TextId;
+pub use lists::{Line, Lines, Listed, Order};
+pub use memory::OutOfMemory;
+pub use refusals::{Place, ReadFail, Refusal, RefusalKind};
