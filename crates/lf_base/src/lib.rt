@@ -5,11 +5,13 @@
 #![tactic(auto)]
 
 mod ids;
+mod limits;
 mod lists;
 mod memory;
 mod refusals;
 
 pub use ids::TextId;
+pub use limits::MOST_SCRIPT_BYTES;
 pub use lists::{Line, Lines, Listed, Order};
 pub use memory::OutOfMemory;
 pub use refusals::{Place, ReadFail, Refusal, RefusalKind};

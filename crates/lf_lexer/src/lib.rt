@@ -1,0 +1,8 @@
+//! The lexer: from a script's bytes to its tokens and texts, or to its first refusal.
+//!
+//! It stands on `lf_base`.
+#![tactic(auto)]
+
+mod tokens;
+
+pub use tokens::{Lexeme, Mark, Token, Tokens};
