@@ -1,5 +1,5 @@
 -- The texts of a script: a list of byte lists without repeats, which begins with fixed ones.
-use Rattle.std.specs.Prelude.{ℕ, List, [], ◌∷◌, ◌++◌, codes, fold, if◌then◌else◌, slice_get, unwrap_or}
+use Rattle.std.specs.Prelude.{◌≡◌, ◌<◌, ℕ, List, [], ◌∷◌, ◌++◌, length, codes, fold, if◌then◌else◌, slice_get, unwrap_or}
 use Rattle.std.specs.List.{list_any, position_or_len}
 use Rattle.std.specs.Str.{bytes_eq}
 
@@ -28,3 +28,7 @@ fixed_texts =
 -- the texts after these were seen one after another
 abbrev pub with_texts : List Text → List Text → List Text
 with_texts texts seen = fold with_text texts seen
+
+-- no two places have one text
+abbrev pub Differ : List Text → Type 0
+Differ texts = (i j : ℕ) → i < length texts → j < length texts → text_at texts i ≡ text_at texts j → i ≡ j
