@@ -1,7 +1,7 @@
 -- Laws of the lists of texts.
-use Rattle.std.proofs.Common.{◌≡◌, ◌∙◌, ◌<◌, ◌≤◌, ◌+◌, ◌||◌, ℕ, zero, suc, Bool, true, false, cond, not, List, [], ◌∷◌, ◌++◌, length, get_or, sym, ap, refl, subst, arith, true≢false, ◌⊎◌, length-append, append_assoc, append-nil, inl, inr}
-use Rattle.std.specs.Prelude.{fold, codes, slice_get, unwrap_or, if◌then◌else◌}
-use Rattle.std.specs.List.{list_any, position_or_len, prefix_len}
+use Rattle.std.proofs.Common.{◌≡◌, ◌∙◌, ◌<◌, ◌+◌, ◌||◌, ℕ, Bool, true, false, cond, not, List, [], ◌∷◌, ◌++◌, length, get_or, sym, ap, refl, arith, true≢false, ◌⊎◌, length-append, append_assoc, append-nil, inl, inr, map, drop, drop-cons, add-one}
+use Rattle.std.specs.Prelude.{if◌then◌else◌}
+use Rattle.std.specs.List.{list_any, position_or_len}
 use Rattle.std.specs.Str.{bytes_eq}
 use Rattle.std.proofs.lemmas.Grind.{common_steps}
 use Rattle.std.proofs.lemmas.Slice.Eq.{bytes_eq-Decides}
@@ -60,9 +60,11 @@ list_any-with_text texts text = by_test (list_any (bytes_eq text) texts) refl
   where
     last : list_any (bytes_eq text) (text ∷ []) ≡ true
     last = ap (λ b. b || false) (bytes_eq_self text)
+
     any : (b c : Bool) → c ≡ true → (b || c) ≡ true
     any true c e = refl
     any false c e = e
+
     by_test : (b : Bool) → list_any (bytes_eq text) texts ≡ b → list_any (bytes_eq text) (if b then texts else texts ++ text ∷ []) ≡ true
     by_test true e = e
     by_test false e = list_any-append (bytes_eq text) texts (text ∷ []) ∙ any (list_any (bytes_eq text) texts) (list_any (bytes_eq text) (text ∷ [])) last
@@ -109,6 +111,7 @@ place_of-with_text texts after text g =
             → cond (not b) (1 + place_of (ts ++ text ∷ []) text) 0 ≡ cond (not b) (1 + place_of ts text) 0
         inner true e rest = refl
         inner false e rest = ap (λ n. 1 + n) (rest e)
+
     by_test : (b : Bool) → list_any (bytes_eq text) texts ≡ b → place_of (if b then texts else texts ++ text ∷ []) text ≡ place_of texts text
     by_test true e = refl
     by_test false e = at_end texts e
@@ -143,21 +146,26 @@ Differ-with_text texts text differ = by_test (list_any (bytes_eq text) texts) re
     -- what stands before the end and at the end
     before : (i : ℕ) → i < length texts → text_at (texts ++ text ∷ []) i ≡ text_at texts i
     before i lt = unwrap_or-slice_get (texts ++ text ∷ []) i [] ∙ get_or_append_left texts (text ∷ []) [] i lt ∙ sym (unwrap_or-slice_get texts i [])
+
     at_end : text_at (texts ++ text ∷ []) (length texts) ≡ text
     at_end = unwrap_or-slice_get (texts ++ text ∷ []) (length texts) [] ∙ get_or-append_seam texts text [] []
+
     new : list_any (bytes_eq text) texts ≡ false → (i : ℕ) → i < length texts → text_at (texts ++ text ∷ []) i ≡ text_at (texts ++ text ∷ []) (length texts) → ⊥
     new e i lt same =
         let is : text_at texts i ≡ text = sym (before i lt) ∙ same ∙ at_end in
         let there : list_any (bytes_eq text) texts ≡ true = list_any_at (bytes_eq text) texts i [] lt (ap (bytes_eq text) (sym (unwrap_or-slice_get texts i []) ∙ is) ∙ bytes_eq_self text) in
         true≢false (sym there ∙ e)
+
     ends : (i : ℕ) → i < length (texts ++ text ∷ []) → (i < length texts) ⊎ (i ≡ length texts)
     ends i lt = let e : length (texts ++ text ∷ []) ≡ length texts + 1 = length-append texts (text ∷ []) in grind (arith, common_steps)
+
     more : list_any (bytes_eq text) texts ≡ false → (i j : ℕ) → (i < length texts) ⊎ (i ≡ length texts) → (j < length texts) ⊎ (j ≡ length texts)
         → text_at (texts ++ text ∷ []) i ≡ text_at (texts ++ text ∷ []) j → i ≡ j
     more e i j (inl i_lt) (inl j_lt) same = differ i j i_lt j_lt (sym (before i i_lt) ∙ same ∙ before j j_lt)
     more e i j (inl i_lt) (inr j_is) same = absurd (new e i i_lt (same ∙ ap (text_at (texts ++ text ∷ [])) j_is))
     more e i j (inr i_is) (inl j_lt) same = absurd (new e j j_lt (sym same ∙ ap (text_at (texts ++ text ∷ [])) i_is))
     more e i j (inr i_is) (inr j_is) same = i_is ∙ sym j_is
+
     by_test : (b : Bool) → list_any (bytes_eq text) texts ≡ b → Differ (if b then texts else texts ++ text ∷ [])
     by_test true e = differ
     by_test false e = λ i j i_lt j_lt same. more e i j (ends i i_lt) (ends j j_lt) same
@@ -175,3 +183,15 @@ fixed_texts_are = refl
 
 pub Differ-fixed_texts : Differ fixed_texts
 Differ-fixed_texts = Differ-with_texts [] fixed_texts Differ-none
+
+drop_next : {X : Type 0} (items : List X) (i : ℕ) (item : X) → i < length items → drop i items ≡ get_or items i item ∷ drop (i + 1) items
+drop_next items i item within = rw (add-one, drop-cons items i item)
+
+-- one text more of those that are seen one after another
+pub with_texts_next : {X : Type 0} (now : X → Text) (texts after : List Text) (text : Text) (items : List X) (i : ℕ) (item : X)
+    → i < length items → text ≡ now (get_or items i item) → after ≡ with_text texts text
+    → with_texts after (map now (drop (i + 1) items)) ≡ with_texts texts (map now (drop i items))
+with_texts_next now texts after text items i item within is e =
+    let f = λ (t : Text). with_texts (with_text texts t) (map now (drop (i + 1) items)) in
+    ap (λ ts. with_texts ts (map now (drop (i + 1) items))) e ∙ ap f is
+    ∙ sym (ap (λ l. with_texts texts (map now l)) (drop_next items i item within))

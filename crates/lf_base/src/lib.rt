@@ -5,12 +5,14 @@
 #![tactic(auto)]
 
 mod ids;
+mod interned;
 mod limits;
 mod lists;
 mod memory;
 mod refusals;
 
 pub use ids::TextId;
+pub use interned::Texts;
 pub use limits::MOST_SCRIPT_BYTES;
 pub use lists::{Line, Lines, Listed, Order};
 pub use memory::OutOfMemory;
