@@ -3,6 +3,7 @@
 //! It stands on `lf_base`.
 #![tactic(auto)]
 
+mod front;
 mod tokens;
 
 pub use tokens::{Lexeme, Mark, Token, Tokens};

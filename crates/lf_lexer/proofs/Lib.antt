@@ -1,0 +1,3 @@
+pub mod Fronts
+pub mod CallerLemmas
+pub mod SpelledOnce
