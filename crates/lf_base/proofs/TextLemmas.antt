@@ -10,7 +10,7 @@ use Rattle.std.proofs.lemmas.List.Sums.{passes_at_first}
 use Rattle.std.proofs.lemmas.List.Folds.{list_any-append, list_any_at}
 use Rattle.std.proofs.lemmas.List.{get_or_append_left}
 use Rattle.std.proofs.Math.Seq.{get_or-append_seam}
-use Rattle.lf_base.specs.Texts.{Text, with_text, with_texts, place_of, text_at, fixed_texts, Differ}
+use Rattle.lf_base.specs.Texts.{Text, with_text, with_texts, place_of, text_at, fixed_texts, Differ, Grows}
 
 pub bytes_eq_self : (text : Text) → bytes_eq text text ≡ true
 bytes_eq_self text = (bytes_eq-Decides text text).1 refl
@@ -69,11 +69,7 @@ list_any-with_text texts text = by_test (list_any (bytes_eq text) texts) refl
     by_test true e = e
     by_test false e = list_any-append (bytes_eq text) texts (text ∷ []) ∙ any (list_any (bytes_eq text) texts) (list_any (bytes_eq text) (text ∷ [])) last
 
--- the second list is the first with texts behind it
-pub record Grows (before after : List Text) : Type 0 where
-  pub more : List Text
-  pub is : after ≡ before ++ more
-
+-- texts that only grow
 pub grows_self : (texts : List Text) → Grows texts texts
 grows_self texts = record { more = []; is = sym (append-nil texts) }
 

@@ -32,3 +32,8 @@ with_texts texts seen = fold with_text texts seen
 -- no two places have one text
 abbrev pub Differ : List Text → Type 0
 Differ texts = (i j : ℕ) → i < length texts → j < length texts → text_at texts i ≡ text_at texts j → i ≡ j
+
+-- the second list is the first with texts behind it
+pub record Grows (before after : List Text) : Type 0 where
+  pub more : List Text
+  pub is : after ≡ before ++ more

@@ -6,7 +6,7 @@ use Rattle.lf_lexer.specs.declared.front.Front.TheVariants.{Name, Number, Sign}
 use Rattle.lf_lexer.specs.Pieces.{Form, name, number, sign, Longest}
 use Rattle.lf_lexer.specs.Pieces as p
 use Rattle.lf_lexer.specs.Front.{front}
-use Rattle.lf_lexer.proofs.Fronts.{front_of, longest_front}
+use Rattle.lf_lexer.proofs.Fronts.{token_front, longest_front}
 
 -- a token has a byte
 pub longest_some : (word rest : List ℕ) (form : Form) → Longest word rest form → 0 < length word
@@ -31,13 +31,13 @@ len_at (Name len) = len
 len_at (Number value len) = len
 len_at _ = 1
 
-form_is : (form : Form) (word : List ℕ) → form_at (front_of form word) ≡ form
+form_is : (form : Form) (word : List ℕ) → form_at (token_front form word) ≡ form
 unfolding form_at
 form_is name word = refl
 form_is number word = refl
 form_is (sign mark) word = refl
 
-len_is : (word rest : List ℕ) (form : Form) → Longest word rest form → len_at (front_of form word) ≡ length word
+len_is : (word rest : List ℕ) (form : Form) → Longest word rest form → len_at (token_front form word) ≡ length word
 unfolding len_at
 len_is _ rest _ (p.a_name letter passes stops no_word) = refl
 len_is _ rest _ (p.a_number digit passes stops small) = refl
@@ -58,7 +58,7 @@ pub record SameToken (word rest : List ℕ) (form : Form) (word' rest' : List �
 pub longest_once : (word rest : List ℕ) (form : Form) (word' rest' : List ℕ) (form' : Form)
     → Longest word rest form → Longest word' rest' form' → word ++ rest ≡ word' ++ rest' → SameToken word rest form word' rest' form'
 longest_once word rest form word' rest' form' l m same =
-    let fronts : front_of form word ≡ front_of form' word' = sym (longest_front word rest form l) ∙ ap front same ∙ longest_front word' rest' form' m in
+    let fronts : token_front form word ≡ token_front form' word' = sym (longest_front word rest form l) ∙ ap front same ∙ longest_front word' rest' form' m in
     let lens : length word ≡ length word' = sym (len_is word rest form l) ∙ ap len_at fronts ∙ len_is word' rest' form' m in
     record {
       words = sym (take-append_seam word rest) ∙ ap (λ n. take n (word ++ rest)) lens ∙ ap (take (length word')) same ∙ take-append_seam word' rest';

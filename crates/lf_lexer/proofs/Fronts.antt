@@ -32,10 +32,10 @@ letter_goes_on : (byte : ℕ) → is_letter byte ≡ true → is_name_byte byte 
 letter_goes_on byte h = grind (arith, nat_tests)
 
 -- what the function says of a longest token
-abbrev pub front_of : Form → List ℕ → Front
-front_of name word = Name (length word)
-front_of number word = Number (pos (digits_value 10 word)) (length word)
-front_of (sign mark) word = Sign mark
+abbrev pub token_front : Form → List ℕ → Front
+token_front name word = Name (length word)
+token_front number word = Number (pos (digits_value 10 word)) (length word)
+token_front (sign mark) word = Sign mark
 
 name_is : (word rest : List ℕ) → is_word word ≡ false → name_front_at (word ++ rest) (length word) ≡ Name (length word)
 unfolding name_front_at
@@ -65,7 +65,7 @@ at_digit byte rest digit =
     ∙ ap (λ b. if b then name_front (byte ∷ rest) else if is_digit byte then N else M) n.1
     ∙ ap (λ b. if b then N else M) digit
 
-pub longest_front : (word rest : List ℕ) (form : Form) → Longest word rest form → front (word ++ rest) ≡ front_of form word
+pub longest_front : (word rest : List ℕ) (form : Form) → Longest word rest form → front (word ++ rest) ≡ token_front form word
 unfolding front sign_front
 longest_front _ rest _ (p.a_name {byte = byte} {bytes = bytes} letter passes stops no_word) =
     at_letter byte (bytes ++ rest) letter
@@ -99,7 +99,7 @@ Stands bytes (Number value len) = Taken bytes len number × (value ≡ pos (digi
 Stands bytes (Sign mark) = Taken bytes 1 (sign mark)
 Stands bytes Bad = Unit {0}
 
-passes_prefix : (test : ℕ → Bool) (bytes : List ℕ) → Passes test (take (prefix_len test bytes) bytes)
+pub passes_prefix : (test : ℕ → Bool) (bytes : List ℕ) → Passes test (take (prefix_len test bytes) bytes)
 passes_prefix test [] = tt
 passes_prefix test (byte ∷ bytes) = by_test (test byte) refl (passes_prefix test bytes)
   where

@@ -1,3 +1,4 @@
+pub mod Digits
 pub mod Fronts
 pub mod CallerLemmas
 pub mod SpelledOnce

@@ -14,7 +14,7 @@ use Rattle.lf_lexer.specs.declared.front.Front.TheVariants.{End, Space, Name, Nu
 use Rattle.lf_lexer.specs.Pieces.{Form, name, number, sign, Piece, Longest, RestSpells, LineSpells}
 use Rattle.lf_lexer.specs.Pieces as p
 use Rattle.lf_lexer.specs.Front.{front}
-use Rattle.lf_lexer.proofs.Fronts.{front_of, longest_front, Taken, Stands, stands}
+use Rattle.lf_lexer.proofs.Fronts.{token_front, longest_front, Taken, Stands, stands}
 
 -- the rest's first piece, of so many bytes, and the pieces behind it
 pub record NextPiece (at : ℕ) (bytes : List ℕ) (len : ℕ) (form : Form) (pieces : List Piece) : Type 0 where
@@ -50,7 +50,7 @@ spelled_goes at _ _ (p.next {word = word} {rest = rest} {form = form} {pieces = 
     subst (Goes at (word ++ rest) (record { form = form; at = at; bytes = word } ∷ others)) (sym (longest_front word rest form longest)) (by_form word form longest spells)
   where
     by_form : (word : List ℕ) (form : Form) → Longest word rest form → RestSpells (at + length word) rest others
-        → Goes at (word ++ rest) (record { form = form; at = at; bytes = word } ∷ others) (front_of form word)
+        → Goes at (word ++ rest) (record { form = form; at = at; bytes = word } ∷ others) (token_front form word)
     by_form word name longest spells = next_goes at word rest name others spells
     by_form word number longest spells = next_goes at word rest number others spells
     by_form _ _ p.open_paren spells = next_goes at (40 ∷ []) rest _ others spells

@@ -3,3 +3,4 @@ pub mod Pieces
 pub mod Tokens
 pub mod Reading
 pub mod Front
+pub mod FrontWithin
