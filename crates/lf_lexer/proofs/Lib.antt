@@ -1,4 +1,6 @@
+pub mod CallerLemmas
 pub mod Digits
 pub mod Fronts
-pub mod CallerLemmas
+pub mod LineEnds
+pub mod PieceSteps
 pub mod SpelledOnce

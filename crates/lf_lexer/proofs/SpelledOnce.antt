@@ -62,7 +62,7 @@ spelled_goes at _ _ (p.next {word = word} {rest = rest} {form = form} {pieces = 
     by_form _ _ (p.assign stops) spells = next_goes at (61 ∷ []) rest _ others spells
 
 -- and back
-next_spells : (at : ℕ) (bytes : List ℕ) (len : ℕ) (form : Form) (pieces : List Piece) → Taken bytes len form → NextPiece at bytes len form pieces → RestSpells at bytes pieces
+pub next_spells : (at : ℕ) (bytes : List ℕ) (len : ℕ) (form : Form) (pieces : List Piece) → Taken bytes len form → NextPiece at bytes len form pieces → RestSpells at bytes pieces
 next_spells at bytes len form pieces taken next =
     let is : length (take len bytes) ≡ len = length-take-le len bytes taken.within in
     let spells : RestSpells at (take len bytes ++ drop len bytes) (record { form = form; at = at; bytes = take len bytes } ∷ next.others)

@@ -4,3 +4,4 @@ pub mod Tokens
 pub mod Reading
 pub mod Front
 pub mod FrontWithin
+pub mod Lexing

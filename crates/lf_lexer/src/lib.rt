@@ -4,6 +4,9 @@
 #![tactic(auto)]
 
 mod front;
+mod lexed;
+mod line;
 mod tokens;
 
+pub use lexed::Lexed;
 pub use tokens::{Lexeme, Mark, Token, Tokens};
