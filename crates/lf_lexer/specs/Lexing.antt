@@ -1,10 +1,12 @@
 -- What is lexed so far, and what each step adds.
 use Rattle.std.specs.Prelude.{◌≡◌, ℕ, ◌+◌, ◌≤◌, ◌==◌, Bool, false, List, [], ◌∷◌, ◌++◌, length, map, take, if◌then◌else◌}
+use Rattle.std.specs.List.{AllZip}
+use Rattle.lf_base.specs.Lines.{lines}
 use Rattle.lf_base.specs.declared.refusals.Refusal.{Refusal}
 use Rattle.lf_base.specs.declared.refusals.RefusalKind.TheVariants.{NotBuilt}
 use Rattle.lf_base.specs.declared.refusals.ReadFail.{ReadFail}
 use Rattle.lf_base.specs.declared.refusals.ReadFail.TheVariants as fails
-use Rattle.lf_base.specs.Texts.{Text, place_of, with_text, with_texts, Grows}
+use Rattle.lf_base.specs.Texts.{Text, place_of, with_text, with_texts, fixed_texts, Grows}
 use Rattle.lf_lexer.specs.declared.tokens.Lexeme.{Lexeme}
 use Rattle.lf_lexer.specs.declared.tokens.Lexeme.TheVariants as lexeme
 use Rattle.lf_lexer.specs.declared.tokens.Token.{Token}
@@ -15,7 +17,7 @@ use Rattle.lf_lexer.specs.declared.line.Step.TheVariants as step
 use Rattle.lf_lexer.specs.declared.lexed.Lexed.{Lexed}
 use Rattle.lf_lexer.specs.declared.lexed.LineStart.{LineStart}
 use Rattle.lf_lexer.specs.Pieces.{Piece, RestSpells, LineSpells}
-use Rattle.lf_lexer.specs.Tokens.{texts_of_pieces, token_of, line_tokens, last_line}
+use Rattle.lf_lexer.specs.Tokens.{texts_of_pieces, texts_of, token_of, line_tokens, last_line, tokens_from, end_token}
 use Rattle.lf_lexer.specs.Reading.{NotSpelled}
 
 abbrev pub refusal_of : ℕ → Refusal
@@ -92,3 +94,15 @@ RefusesLine line bytes fails.OutOfMemory = Unit {0}
 abbrev pub begins_with_space : List ℕ → Bool
 begins_with_space [] = false
 begins_with_space (byte ∷ bytes) = byte == 32
+
+-- nothing is lexed so far
+pub record StartsEmpty (lexed : Lexed) : Type 0 where
+  pub tokens : lexed.tokens ≡ []
+  pub texts : lexed.texts ≡ fixed_texts
+
+-- all lines are lexed, and the token at the end is still to come
+pub record LexesLines (bytes : List ℕ) (lexed : Lexed) (last : ℕ) : Type 0 where
+  pub pieces : List (List Piece)
+  pub spelled : AllZip LineSpells (lines bytes) pieces
+  pub texts : lexed.texts ≡ texts_of pieces
+  pub tokens : (size : ℕ) → tokens_from lexed.texts size 1 0 0 (lines bytes) pieces ≡ lexed.tokens ++ end_token size last ∷ []

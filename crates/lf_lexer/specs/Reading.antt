@@ -3,6 +3,8 @@ use Rattle.std.specs.Prelude.{◌≡◌, ℕ, ◌+◌, List, ◌∷◌, ◌++◌
 use Rattle.std.specs.List.{AllZip}
 use Rattle.lf_base.specs.declared.refusals.Refusal.{Refusal}
 use Rattle.lf_base.specs.declared.refusals.RefusalKind.TheVariants.{NotBuilt}
+use Rattle.lf_base.specs.declared.refusals.ReadFail.{ReadFail}
+use Rattle.lf_base.specs.declared.refusals.ReadFail.TheVariants as fail
 use Rattle.lf_base.specs.Lines.{lines}
 use Rattle.lf_base.specs.Texts.{Text}
 use Rattle.lf_lexer.specs.declared.tokens.Token.{Token}
@@ -30,3 +32,8 @@ pub record IsFirstRefusal (bytes : List ℕ) (refusal : Refusal) : Type 0 where
   pub spelled : AllZip LineSpells before pieces
   pub not_spelled : NotSpelled line
   pub refusal_is : refusal ≡ record { kind = NotBuilt; place = record { line = length before + 1; column = 1 } }
+
+-- what failing says of these bytes: want of memory may come at any
+abbrev pub FailsAs : List ℕ → ReadFail → Type 0
+FailsAs bytes (fail.Refused refusal) = IsFirstRefusal bytes refusal
+FailsAs bytes fail.OutOfMemory = Unit {0}

@@ -6,7 +6,9 @@
 mod front;
 mod lexed;
 mod line;
+mod script;
 mod tokens;
 
 pub use lexed::Lexed;
+pub use script::lex;
 pub use tokens::{Lexeme, Mark, Token, Tokens};
