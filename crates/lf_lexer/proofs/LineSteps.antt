@@ -127,16 +127,7 @@ lines_refused bytes lexed line last rest here left (fail.Refused refusal) next r
 }
 lines_refused bytes lexed line last rest here left fail.OutOfMemory next refuses s = tt
 
--- the whole script
-pub lines_spelled : (bytes : List ℕ) (lexed newer : Lexed) (last : ℕ) → LexesLines bytes lexed last → newer ≡ with_token lexed (end_token (length bytes) last) → Spells bytes newer.tokens newer.texts
-lines_spelled bytes lexed newer last lexes is =
-    subst (λ (l : Lexed). Spells bytes l.tokens l.texts) (sym is) (record {
-      pieces = lexes.pieces;
-      spelled = lexes.spelled;
-      texts_are = lexes.texts;
-      tokens_are = sym (lexes.tokens (length bytes));
-    })
-
+-- the first line of a rest, and what is left behind it
 pub lines_split : (rest here after left : List ℕ) (len : ℕ) → 0 < length rest → len ≡ prefix_len (λ (b : ℕ). not (b == 10)) rest
     → here ≡ take len rest → after ≡ drop len rest → left ≡ drop 1 after → lines rest ≡ here ∷ lines left
 lines_split [] here after left len some len_is here_is after_is left_is = absurd (omega arith)

@@ -8,7 +8,8 @@ use Rattle.lf_base.specs.Lines.{lines}
 use Rattle.lf_base.specs.Texts.{Text}
 use Rattle.lf_lexer.specs.declared.tokens.Token.{Token}
 use Rattle.lf_lexer.specs.Tokens.{texts_of, tokens_from}
-use Rattle.lf_lexer.specs.Reading.{Spells, IsFirstRefusal}
+use Rattle.lf_lexer.specs.Lexing.{refusal_of}
+use Rattle.lf_lexer.specs.Reading.{Spells, NotSpelled, IsFirstRefusal}
 use Rattle.lf_lexer.specs.declared.front.Front.{Front}
 use Rattle.lf_lexer.specs.declared.front.Front.TheVariants.{End, Space, Name, Number, Sign, Bad}
 use Rattle.lf_lexer.specs.Pieces.{Form, name, number, sign, Piece, Longest, RestSpells, LineSpells}
@@ -143,3 +144,27 @@ pub spelled_not_refused : (bytes : List ℕ) (tokens : List Token) (texts : List
 spelled_not_refused bytes tokens texts refusal s r =
     let here = spelled_among r.before r.line r.after s.pieces (subst (λ (ls : List (List ℕ)). AllZip LineSpells ls s.pieces) r.split s.spelled) in
     r.not_spelled here.0 here.1
+
+-- the lines before the first one that is not spelled are as many each time
+refused_at : (before before' : List (List ℕ)) (line line' : List ℕ) (after after' : List (List ℕ)) (pieces pieces' : List (List Piece))
+    → before ++ line ∷ after ≡ before' ++ line' ∷ after' → AllZip LineSpells before pieces → AllZip LineSpells before' pieces'
+    → NotSpelled line → NotSpelled line' → length before ≡ length before'
+refused_at [] [] line line' after after' pieces pieces' same z z' n n' = refl
+refused_at [] (first ∷ before') line line' after after' pieces [] same z z' n n' = absurd z'
+refused_at [] (first ∷ before') line line' after after' pieces (ps ∷ pieces') same z z' n n' =
+    let e : line ≡ first = cc in absurd (n ps (subst (λ (l : List ℕ). LineSpells l ps) (sym e) z'.0))
+refused_at (first ∷ before) [] line line' after after' [] pieces' same z z' n n' = absurd z
+refused_at (first ∷ before) [] line line' after after' (ps ∷ pieces) pieces' same z z' n n' =
+    let e : first ≡ line' = cc in absurd (n' ps (subst (λ (l : List ℕ). LineSpells l ps) e z.0))
+refused_at (first ∷ before) (first' ∷ before') line line' after after' [] pieces' same z z' n n' = absurd z
+refused_at (first ∷ before) (first' ∷ before') line line' after after' (ps ∷ pieces) [] same z z' n n' = absurd z'
+refused_at (first ∷ before) (first' ∷ before') line line' after after' (ps ∷ pieces) (ps' ∷ pieces') same z z' n n' =
+    let e : before ++ line ∷ after ≡ before' ++ line' ∷ after' = cc in
+    ap suc (refused_at before before' line line' after after' pieces pieces' e z.1 z'.1 n n')
+
+-- a script has one first refusal at most
+pub refused_once : (bytes : List ℕ) (r r' : Refusal) → IsFirstRefusal bytes r → IsFirstRefusal bytes r' → r ≡ r'
+refused_once bytes r r' f f' =
+    let same : length f.before ≡ length f'.before =
+    refused_at f.before f'.before f.line f'.line f.after f'.after f.pieces f'.pieces (sym f.split ∙ f'.split) f.spelled f'.spelled f.not_spelled f'.not_spelled in
+    f.refusal_is ∙ ap (λ (n : ℕ). refusal_of (n + 1)) same ∙ sym f'.refusal_is

@@ -4,6 +4,7 @@
 #![tactic(auto)]
 
 mod front;
+pub mod laws;
 mod lexed;
 mod line;
 mod script;
