@@ -2,6 +2,7 @@
 use Rattle.std.specs.Prelude.{◌≡◌, ◌≤◌, ◌+◌, ◌⊎◌, ℕ, true, false, List, [], length, nat_lt, Option, Some, if◌then◌else◌}
 use Rattle.std.specs.Io.KnownBytes.{Consumes, Appends, IsAtEnd}
 use Rattle.lf_outside.specs.Causes.{Rose}
+use Rattle.lf_outside.specs.Streams.{Stream}
 use Rattle.lf_outside.specs.Transfer.{AppendsFront, ConsumesSome, ConsumesUpTo}
 use Rattle.lf_app.specs.declared.statuses.Status.{Status}
 use Rattle.lf_app.specs.declared.statuses.Status.TheVariants.{Done, Faulted, ScriptRefused, WordsRefused, Stopped, ReadFault, WriteFault, OutOfMemory, ScriptTooLong}
@@ -26,82 +27,70 @@ due words bytes = if is_run words then (if nat_lt most_bytes (length bytes) then
 -- a call: its words, and the source and the sink before and after it
 pub record Call : Type 0 where
   pub words : List (List ℕ)
-  pub left : Option (List ℕ)
-  pub left_after : Option (List ℕ)
-  pub held : Option (List ℕ)
-  pub held_after : Option (List ℕ)
-  pub source_faults : ℕ
-  pub source_faults_after : ℕ
-  pub sink_faults : ℕ
-  pub sink_faults_after : ℕ
+  pub source : Stream
+  pub source_after : Stream
+  pub sink : Stream
+  pub sink_after : Stream
+
+abbrev pub call : List (List ℕ) → Stream → Stream → Stream → Stream → Call
+call words source source_after sink sink_after = record { words = words; source = source; source_after = source_after; sink = sink; sink_after = sink_after }
 
 -- the whole script was read, and is no longer than a script may be
 pub record ReadsScript (call : Call) (bytes : List ℕ) : Type 0 where
   pub short : length bytes ≤ most_bytes
-  pub read : Consumes call.left call.left_after bytes
-  pub ended : IsAtEnd call.left_after
-
--- the source wasn't asked
-pub record LeavesSource (call : Call) : Type 0 where
-  pub bytes : call.left_after ≡ call.left
-  pub faults : call.source_faults_after ≡ call.source_faults
-
--- the sink wasn't asked
-pub record LeavesSink (call : Call) : Type 0 where
-  pub bytes : call.held_after ≡ call.held
-  pub faults : call.sink_faults_after ≡ call.sink_faults
+  pub read : Consumes call.source.bytes call.source_after.bytes bytes
+  pub ended : IsAtEnd call.source_after.bytes
+  pub faults : call.source_after.faults ≡ call.source.faults
 
 -- a script was read and judged, and all that is due was written
 pub record Completes (call : Call) (report : Report) : Type 0 where
-  pub bytes : List ℕ
   pub runs : is_run call.words ≡ true
+  pub bytes : List ℕ
   pub script : ReadsScript call bytes
   pub due_status : report.status ≡ due_of (verdict bytes)
   pub order : report.order ≡ journal bytes
-  pub written : Appends call.held call.held_after (output bytes)
-  pub source_faults : call.source_faults_after ≡ call.source_faults
-  pub sink_faults : call.sink_faults_after ≡ call.sink_faults
+  pub written : Appends call.sink.bytes call.sink_after.bytes (output bytes)
+  pub faults : call.sink_after.faults ≡ call.sink.faults
 
--- a script was read and judged, and a front of what is due was written before the sink failed
+-- a script was read and judged, and the sink failed behind a front of what is due
 pub record WriteFails (call : Call) (report : Report) : Type 0 where
-  pub bytes : List ℕ
   pub runs : is_run call.words ≡ true
+  pub bytes : List ℕ
   pub script : ReadsScript call bytes
   pub order : report.order ≡ journal bytes
-  pub written : AppendsFront (output bytes) call.held call.held_after
-  pub source_faults : call.source_faults_after ≡ call.source_faults
-  pub sink_faults : Rose call.sink_faults call.sink_faults_after
+  pub written : AppendsFront (output bytes) call.sink.bytes call.sink_after.bytes
+  pub rose : Rose call.sink.faults call.sink_after.faults
 
--- the words aren't the one word `run`, and nothing was asked
+-- the words aren't the one word `run`, and neither the source nor the sink was asked
 pub record RefusesWords (call : Call) (report : Report) : Type 0 where
   pub words : is_run call.words ≡ false
   pub order : report.order ≡ []
-  pub source : LeavesSource call
-  pub sink : LeavesSink call
+  pub source : call.source_after ≡ call.source
+  pub sink : call.sink_after ≡ call.sink
 
--- the source failed before its end
+-- the source failed before its end, and the sink wasn't asked
 pub record ReadFails (call : Call) (report : Report) : Type 0 where
   pub runs : is_run call.words ≡ true
   pub order : report.order ≡ []
-  pub read : ConsumesUpTo most_bytes call.left call.left_after
-  pub source_faults : Rose call.source_faults call.source_faults_after
-  pub sink : LeavesSink call
+  pub read : ConsumesUpTo most_bytes call.source.bytes call.source_after.bytes
+  pub rose : Rose call.source.faults call.source_after.faults
+  pub sink : call.sink_after ≡ call.sink
 
--- one byte more than the longest script was read
+-- one byte more than the longest script was read, and the sink wasn't asked
 pub record FindsTooLong (call : Call) (report : Report) : Type 0 where
   pub runs : is_run call.words ≡ true
   pub order : report.order ≡ []
-  pub read : ConsumesSome (most_bytes + 1) call.left call.left_after
-  pub source_faults : call.source_faults_after ≡ call.source_faults
-  pub sink : LeavesSink call
+  pub read : ConsumesSome (most_bytes + 1) call.source.bytes call.source_after.bytes
+  pub faults : call.source_after.faults ≡ call.source.faults
+  pub sink : call.sink_after ≡ call.sink
 
--- memory ran out before anything was written
+-- memory ran out before anything was written, and the sink wasn't asked
 pub record LacksMemory (call : Call) (report : Report) : Type 0 where
   pub runs : is_run call.words ≡ true
   pub order : report.order ≡ []
-  pub read : ConsumesUpTo most_bytes call.left call.left_after
-  pub source_faults : call.source_faults_after ≡ call.source_faults
-  pub sink : LeavesSink call
+  pub read : ConsumesUpTo most_bytes call.source.bytes call.source_after.bytes
+  pub faults : call.source_after.faults ≡ call.source.faults
+  pub sink : call.sink_after ≡ call.sink
 
 -- what each status says. No script faults or stops yet
 abbrev pub Says : Call → Report → Status → Type 0
@@ -120,5 +109,5 @@ Answers call report = Says call report report.status
 
 -- where the source told its bytes and nothing failed, the status is the due one, or memory ran out
 abbrev pub IsComplete : Call → Report → Type 0
-IsComplete call report = (bytes : List ℕ) → call.left ≡ Some bytes → call.source_faults_after ≡ call.source_faults → call.sink_faults_after ≡ call.sink_faults
+IsComplete call report = (bytes : List ℕ) → call.source.bytes ≡ Some bytes → call.source_after.faults ≡ call.source.faults → call.sink_after.faults ≡ call.sink.faults
     → (report.status ≡ due call.words bytes) ⊎ (report.status ≡ OutOfMemory)

@@ -1,9 +1,10 @@
 -- What comes of a script, before anything of it is written.
-use Rattle.std.specs.Prelude.{◌≡◌, ◌⊎◌, ℕ, List, Option, string_bytes}
+use Rattle.std.specs.Prelude.{◌≡◌, ◌⊎◌, ℕ, List, string_bytes}
 use Rattle.std.specs.Io.KnownBytes.{Appends}
 use Rattle.lf_base.specs.declared.refusals.Refusal.{Refusal}
 use Rattle.lf_lexer.specs.Reading.{IsFirstRefusal}
 use Rattle.lf_outside.specs.Causes.{Rose}
+use Rattle.lf_outside.specs.Streams.{Stream}
 use Rattle.lf_outside.specs.Transfer.{AppendsFront}
 use Rattle.lf_app.specs.declared.reports.Report.{Report}
 use Rattle.lf_app.specs.declared.statuses.Status.TheVariants.{WriteFault}
@@ -22,23 +23,19 @@ pub record IsOutcomeOf (verdict : Verdict) (outcome : Outcome) : Type 0 where
 abbrev pub IsRefusedAt : List ℕ → ℕ → Type 0
 IsRefusedAt bytes line = (refusal : Refusal) × IsFirstRefusal bytes refusal × (refusal.place.line ≡ line)
 
--- a sink before and after it was handed an outcome's text
-pub record Writing : Type 0 where
-  pub held : Option (List ℕ)
-  pub held_after : Option (List ℕ)
-  pub faults : ℕ
-  pub faults_after : ℕ
-
--- the whole text was written
-pub record IsWritten (writing : Writing) (outcome : Outcome) (report : Report) : Type 0 where
+-- the whole text was written to a sink
+pub record IsWritten (sink sink_after : Stream) (outcome : Outcome) (report : Report) : Type 0 where
   pub status_is : report.status ≡ outcome.status
   pub order_is : report.order ≡ outcome.order
-  pub all : Appends writing.held writing.held_after (string_bytes outcome.text)
-  pub kept : writing.faults_after ≡ writing.faults
+  pub all : Appends sink.bytes sink_after.bytes (string_bytes outcome.text)
+  pub kept : sink_after.faults ≡ sink.faults
 
 -- the sink failed behind a front of the text
-pub record IsCut (writing : Writing) (outcome : Outcome) (report : Report) : Type 0 where
+pub record IsCut (sink sink_after : Stream) (outcome : Outcome) (report : Report) : Type 0 where
   pub status_is : report.status ≡ WriteFault
   pub order_is : report.order ≡ outcome.order
-  pub front : AppendsFront (string_bytes outcome.text) writing.held writing.held_after
-  pub rose : Rose writing.faults writing.faults_after
+  pub front : AppendsFront (string_bytes outcome.text) sink.bytes sink_after.bytes
+  pub rose : Rose sink.faults sink_after.faults
+
+abbrev pub WritesOutcome : Stream → Stream → Outcome → Report → Type 0
+WritesOutcome sink sink_after outcome report = IsWritten sink sink_after outcome report ⊎ IsCut sink sink_after outcome report

@@ -1,6 +1,7 @@
-ghost use Rattle.std.specs.Prelude.{◌≡◌, ◌<◌, ◌-◌, ◌^◌, ◌⊎◌, []};
-ghost use Rattle.lf_app.specs.Answers.{Answers, Call, IsComplete};
-ghost use Rattle.lf_app.specs.Outcomes.{IsCut, IsWritten, Writing};
+ghost use Rattle.std.specs.Prelude.{◌≡◌, ◌<◌, ◌-◌, ◌^◌, []};
+ghost use Rattle.lf_outside.specs.Streams.{stream};
+ghost use Rattle.lf_app.specs.Answers.{Answers, IsComplete, call};
+ghost use Rattle.lf_app.specs.Outcomes.{WritesOutcome};
 
 use crate::outcomes::Outcome;
 use crate::reports::Report;
@@ -10,8 +11,6 @@ use crate::word_list::{Word, is_run};
 use lf_base::{MOST_SCRIPT_BYTES, Order};
 use lf_outside::{Gate, ReadStop, Sink, Source, read_all, write_all};
 use std::alloc::Global;
-use std::sync::Wait;
-use std::thread::Threads;
 
 /// The store that the program keeps its rows in. No row is kept yet.
 pub struct MainStore;
@@ -29,13 +28,7 @@ fn ended(alloc: Global, status: Status) -> Report
 
 // Writes the text of an outcome.
 fn write_outcome<K: Sink>(out: &mut K, outcome: Outcome) -> Report
-    ensures { let writing : Writing = record {
-      held = K.held out.old;
-      held_after = K.held out.new;
-      faults = K.faults out.old;
-      faults_after = K.faults out.new;
-    } in
-        IsWritten writing outcome result ⊎ IsCut writing outcome result }
+    ensures { WritesOutcome (stream (K.held out.old) (K.faults out.old)) (stream (K.held out.new) (K.faults out.new)) outcome result }
 {
     let status = match write_all(out, outcome.text.as_bytes()) {
         Ok(()) => outcome.status,
@@ -52,7 +45,7 @@ fn write_outcome<K: Sink>(out: &mut K, outcome: Outcome) -> Report
 ///
 /// `Answers` says what each status means of the source, the sink and the journal; `IsComplete`
 /// that the status is the due one, or want of memory, where neither of them failed.
-pub fn tool<R: Threads + Sync, H, S: Source, K: Sink, G: Gate>(
+pub fn tool<R, H, S: Source, K: Sink, G: Gate>(
     _rt: &R,
     alloc: Global,
     words: &[Word],
@@ -62,30 +55,10 @@ pub fn tool<R: Threads + Sync, H, S: Source, K: Sink, G: Gate>(
 ) -> Report
     requires source { S.faults script.old < 2 ^ 64 - 1 }
     requires sink { K.faults out.old < 2 ^ 64 - 1 }
-    ensures answers { let call : Call = record {
-      words = words.now;
-      left = S.left script.old;
-      left_after = S.left script.new;
-      held = K.held out.old;
-      held_after = K.held out.new;
-      source_faults = S.faults script.old;
-      source_faults_after = S.faults script.new;
-      sink_faults = K.faults out.old;
-      sink_faults_after = K.faults out.new;
-    } in
-        Answers call result }
-    ensures complete { let call : Call = record {
-      words = words.now;
-      left = S.left script.old;
-      left_after = S.left script.new;
-      held = K.held out.old;
-      held_after = K.held out.new;
-      source_faults = S.faults script.old;
-      source_faults_after = S.faults script.new;
-      sink_faults = K.faults out.old;
-      sink_faults_after = K.faults out.new;
-    } in
-        IsComplete call result }
+    ensures answers { Answers (call words.now (stream (S.left script.old) (S.faults script.old)) (stream (S.left script.new) (S.faults script.new))
+        (stream (K.held out.old) (K.faults out.old)) (stream (K.held out.new) (K.faults out.new))) result }
+    ensures complete { IsComplete (call words.now (stream (S.left script.old) (S.faults script.old)) (stream (S.left script.new) (S.faults script.new))
+        (stream (K.held out.old) (K.faults out.old)) (stream (K.held out.new) (K.faults out.new))) result }
 {
     if !is_run(words) {
         return ended(alloc, Status::WordsRefused);
@@ -100,4 +73,23 @@ pub fn tool<R: Threads + Sync, H, S: Source, K: Sink, G: Gate>(
         return ended(alloc, Status::OutOfMemory);
     };
     write_outcome(out, outcome)
+}
+
+/// All that the program does. It is what `main` calls, and answers the report of [`tool`].
+pub fn top<R, H, S: Source, K: Sink, G: Gate>(
+    rt: &R,
+    alloc: Global,
+    words: &[Word],
+    script: &mut S,
+    out: &mut K,
+    gate: &G,
+) -> Report
+    requires source { S.faults script.old < 2 ^ 64 - 1 }
+    requires sink { K.faults out.old < 2 ^ 64 - 1 }
+    ensures answers { Answers (call words.now (stream (S.left script.old) (S.faults script.old)) (stream (S.left script.new) (S.faults script.new))
+        (stream (K.held out.old) (K.faults out.old)) (stream (K.held out.new) (K.faults out.new))) result }
+    ensures complete { IsComplete (call words.now (stream (S.left script.old) (S.faults script.old)) (stream (S.left script.new) (S.faults script.new))
+        (stream (K.held out.old) (K.faults out.old)) (stream (K.held out.new) (K.faults out.new))) result }
+{
+    tool::<R, H, S, K, G>(rt, alloc, words, script, out, gate)
 }

@@ -15,7 +15,7 @@ mod token_forms;
 mod walk;
 mod word_list;
 
-pub use commands::{MainStore, tool};
+pub use commands::{MainStore, tool, top};
 pub use reports::Report;
 pub use statuses::Status;
 pub use word_list::Word;

@@ -1,7 +1,7 @@
 -- What an adapter over std is made of.
 use Rattle.std.specs.Prelude.{ℕ}
-use Rattle.lf_outside.specs.declared.adapters.ReadSource.{ReadSource}
-use Rattle.lf_outside.specs.declared.adapters.WriteSink.{WriteSink}
+use Rattle.lf_outside.specs.declared.read_source.ReadSource.{ReadSource}
+use Rattle.lf_outside.specs.declared.write_sink.WriteSink.{WriteSink}
 
 -- the reader behind a source
 abbrev pub reader_of : {R : Type 0} → ReadSource R → R

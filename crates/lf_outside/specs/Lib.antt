@@ -1,4 +1,5 @@
 pub mod Causes
+pub mod Streams
 pub mod Memory
 pub mod Adapters
 pub mod Transfer

@@ -1,7 +1,7 @@
 use Rattle.std.proofs.Common.{◌≡◌, arith, drop, take, length}
 use Rattle.std.proofs.lemmas.Grind.{common_steps}
 use Rattle.lf_outside.proofs.Moves.{copied}
-use Rattle.lf_outside.proofs.memory.MemSourceSource.read.Goals as goal
+use Rattle.lf_outside.proofs.mem_source.MemSourceSource.read.Goals as goal
 
 pub returns-clause-bytes : goal.returns-clause-bytes
 returns-clause-bytes c =
