@@ -6,6 +6,7 @@
 
 mod ids;
 mod interned;
+pub mod laws;
 mod limits;
 mod lists;
 mod memory;

@@ -13,3 +13,6 @@ mod tokens;
 pub use lexed::Lexed;
 pub use script::lex;
 pub use tokens::{Lexeme, Mark, Token, Tokens};
+
+#[cfg(test)]
+mod tests;
