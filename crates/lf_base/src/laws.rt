@@ -1,9 +1,11 @@
 //! What holds of the definitions that the contracts cite, one law to a function.
 
-ghost use Rattle.std.specs.Prelude.{◌≡◌, ◌<◌, ◌++◌, ℕ, List, length, true};
+ghost use Rattle.std.specs.Prelude.{◌≡◌, ◌<◌, ◌++◌, ℕ, List, codes, length, true};
 ghost use Rattle.std.specs.List.{list_any};
 ghost use Rattle.std.specs.Str.{bytes_eq};
 ghost use Rattle.lf_base.specs.Texts.{Text, with_text, place_of, text_at, fixed_texts, Differ};
+
+use crate::ids::TextId;
 
 /// No text is there twice, first and with every further one.
 pub fn texts_differ()
@@ -22,4 +24,9 @@ pub fn texts_keep_their_places()
 pub fn texts_are_found()
     ensures { (texts : List Text) (place : ℕ) → Differ texts → place < length texts
         → place_of texts (text_at texts place) ≡ place }
+{}
+
+/// The constants of `TextId` name the fixed texts.
+pub fn text_constants_are_fixed_texts()
+    ensures { text_at fixed_texts TextId.PRINT.index ≡ codes "print" }
 {}
