@@ -1,6 +1,5 @@
 -- From the pieces of a line to the whole line.
-use Rattle.std.proofs.Common.{◌≡◌, ◌∙◌, ℕ, zero, suc, ◌+◌, ◌<◌, ◌≤◌, Bool, true, false, List, [], ◌∷◌, ◌++◌, length, map, drop, refl, sym, ap, subst, arith, append_assoc, true≢false}
-use Rattle.std.specs.Prelude.{◌==◌}
+use Rattle.std.proofs.Common.{◌≡◌, ◌∙◌, ℕ, ◌+◌, ◌<◌, ◌≤◌, true, false, List, [], ◌∷◌, ◌++◌, length, map, drop, refl, sym, ap, subst, arith, append_assoc, true≢false}
 use Rattle.std.proofs.lemmas.Bool.Decides.{Decides-eqb}
 use Rattle.lf_base.specs.Texts.{Text, with_texts, Grows}
 use Rattle.lf_lexer.specs.declared.tokens.Lexeme.TheVariants as lexeme
@@ -14,7 +13,7 @@ use Rattle.lf_lexer.specs.Pieces as p
 use Rattle.lf_lexer.specs.Reading.{NotSpelled}
 use Rattle.lf_lexer.specs.Tokens.{texts_of_pieces, token_of, new_line, tokens_behind, line_tokens}
 use Rattle.lf_lexer.proofs.CallerLemmas.{longest_some}
-use Rattle.lf_lexer.proofs.SpelledOnce.{Goes, spelled_goes, rest_spelled_once}
+use Rattle.lf_lexer.proofs.SpelledOnce.{spelled_goes, rest_spelled_once}
 
 -- where there are pieces, the last one ends past the place where the rest begins
 abbrev EndsBeyond : ℕ → List Piece → Type 0

@@ -1,11 +1,9 @@
 -- The lines of a script, one after another.
-use Rattle.std.proofs.Common.{◌≡◌, ◌∙◌, ℕ, zero, suc, ◌+◌, ◌<◌, ◌≤◌, Bool, true, false, cond, not, List, [], ◌∷◌, ◌++◌, length, map, take, drop, refl, sym, ap, subst, arith, append_assoc, append-nil, length-append, length-drop, one-add, true≢false}
-use Rattle.std.specs.Prelude.{◌==◌, fold, if◌then◌else◌}
+use Rattle.std.proofs.Common.{◌≡◌, ◌∙◌, ℕ, suc, ◌+◌, ◌<◌, Bool, true, false, cond, not, List, [], ◌∷◌, ◌++◌, length, take, drop, refl, sym, ap, subst, arith, append_assoc, append-nil, length-append, one-add, true≢false}
+use Rattle.std.specs.Prelude.{◌==◌, if◌then◌else◌}
 use Rattle.std.specs.List.{AllZip, flat_map, prefix_len}
-use Rattle.std.proofs.lemmas.Grind.{flat_map-append, fold-append, common_steps}
+use Rattle.std.proofs.lemmas.Grind.{flat_map-append, fold-append}
 use Rattle.std.proofs.lemmas.Bool.Decides.{Decides-eqb}
-use Rattle.lf_base.specs.declared.refusals.Refusal.{Refusal}
-use Rattle.lf_base.specs.declared.refusals.RefusalKind.TheVariants.{NotBuilt}
 use Rattle.lf_base.specs.declared.refusals.ReadFail.{ReadFail}
 use Rattle.lf_base.specs.declared.refusals.ReadFail.TheVariants as fail
 use Rattle.lf_base.specs.Lines.{lines, with_byte}
@@ -14,10 +12,10 @@ use Rattle.lf_base.proofs.TextLemmas.{grows_self, grows_on, grows-with_texts}
 use Rattle.lf_lexer.specs.declared.tokens.Token.{Token}
 use Rattle.lf_lexer.specs.declared.lexed.Lexed.{Lexed}
 use Rattle.lf_lexer.specs.declared.lexed.LineStart.{LineStart}
-use Rattle.lf_lexer.specs.Lexing.{LexesLine, RefusesLine, StartsEmpty, LexesLines, with_token, refusal_of}
+use Rattle.lf_lexer.specs.Lexing.{LexesLine, RefusesLine, StartsEmpty, LexesLines, refusal_of}
 use Rattle.lf_lexer.specs.Pieces.{Piece, LineSpells}
-use Rattle.lf_lexer.specs.Reading.{Spells, IsFirstRefusal, FailsAs}
-use Rattle.lf_lexer.specs.Tokens.{texts_of_pieces, texts_of, line_tokens, last_line, tokens_from, end_token}
+use Rattle.lf_lexer.specs.Reading.{FailsAs}
+use Rattle.lf_lexer.specs.Tokens.{texts_of_pieces, texts_of, line_tokens, last_line, tokens_from}
 
 -- the first line, and the lines behind it
 pub lines_next : (byte : ℕ) (bytes : List ℕ) → lines (byte ∷ bytes)

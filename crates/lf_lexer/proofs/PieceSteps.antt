@@ -1,19 +1,15 @@
 -- The pieces of a line, one step after another.
-use Rattle.std.proofs.Common.{◌≡◌, ◌∙◌, ℕ, ◌+◌, ◌<◌, ◌≤◌, List, [], ◌∷◌, ◌++◌, length, map, take, drop, pos, refl, sym, ap, subst, arith, append-nil, append_assoc, lit<, ℤ}
-use Rattle.std.specs.Prelude.{fold}
-use Rattle.std.specs.List.{flat_map}
+use Rattle.std.proofs.Common.{◌≡◌, ◌∙◌, ℕ, ◌+◌, ◌<◌, ◌≤◌, List, [], ◌∷◌, ◌++◌, length, map, take, drop, pos, refl, sym, ap, subst, arith, append-nil, append_assoc, ℤ}
 use Rattle.std.specs.Str.Parse.{digits_value}
 use Rattle.std.proofs.lemmas.List.{length-take-le, map-append}
 use Rattle.std.proofs.lemmas.Grind.{flat_map-append, fold-append}
 use Rattle.lf_base.specs.Texts.{Text, place_of, with_text, with_texts, Grows}
 use Rattle.lf_base.proofs.TextLemmas.{place_of-with_text, grows_on, grows-with_texts}
 use Rattle.lf_lexer.specs.declared.tokens.Mark.{Mark}
-use Rattle.lf_lexer.specs.declared.tokens.Lexeme.{Lexeme}
 use Rattle.lf_lexer.specs.declared.tokens.Lexeme.TheVariants as lexeme
 use Rattle.lf_lexer.specs.declared.tokens.Token.{Token}
 use Rattle.lf_lexer.specs.declared.front.Front.{Front}
 use Rattle.lf_lexer.specs.declared.front.Front.TheVariants.{End, Space, Name, Number, Sign, Bad}
-use Rattle.lf_lexer.specs.declared.line.Step.{Step}
 use Rattle.lf_lexer.specs.declared.line.Step.TheVariants as step
 use Rattle.lf_lexer.specs.declared.lexed.Lexed.{Lexed}
 use Rattle.lf_lexer.specs.declared.lexed.LineStart.{LineStart}
@@ -23,7 +19,7 @@ use Rattle.lf_lexer.specs.Pieces.{Form, name, number, sign, Piece, RestSpells}
 use Rattle.lf_lexer.specs.Pieces as p
 use Rattle.lf_lexer.specs.Tokens.{texts_of_form, texts_of_pieces, token_of}
 use Rattle.lf_lexer.proofs.Fronts.{Taken, Stands, stands}
-use Rattle.lf_lexer.proofs.SpelledOnce.{NextPiece, Goes, spelled_goes, goes_spelled, next_spells}
+use Rattle.lf_lexer.proofs.SpelledOnce.{NextPiece, Goes, spelled_goes, next_spells}
 
 -- a step takes some bytes that are there
 pub record StepTakes (len : ℕ) (bytes : List ℕ) : Type 0 where

@@ -1,5 +1,5 @@
 -- How many bytes stand at the front of a line's rest.
-use Rattle.std.specs.Prelude.{ℕ, ◌<◌, ◌≤◌}
+use Rattle.std.specs.Prelude.{ℕ, ◌≤◌}
 use Rattle.lf_lexer.specs.declared.front.Front.{Front}
 use Rattle.lf_lexer.specs.declared.front.Front.TheVariants.{End, Space, Name, Number, Sign, Bad}
 

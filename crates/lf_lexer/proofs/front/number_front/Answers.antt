@@ -1,4 +1,3 @@
-use Rattle.std.proofs.Common.{◌≡◌, take}
 use Rattle.lf_lexer.specs.Bytes.{is_digit}
 use Rattle.lf_lexer.proofs.Fronts.{passes_prefix}
 use Rattle.lf_lexer.proofs.front.number_front.Goals as goal

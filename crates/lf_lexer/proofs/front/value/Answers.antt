@@ -1,4 +1,4 @@
-use Rattle.std.proofs.Common.{◌≡◌, ◌<◌, ◌≤◌, ◌^◌, ◌+◌, ◌*◌, ◌-◌, ◌∙◌, ap, refl, arith, Some, None, pos}
+use Rattle.std.proofs.Common.{◌^◌, ◌+◌, refl, arith}
 use Rattle.std.specs.Str.Parse.{digits_value}
 use Rattle.std.proofs.lemmas.Bool.{le-ltb}
 use Rattle.lf_lexer.specs.Bytes.{is_digit}

@@ -1,5 +1,4 @@
-use Rattle.std.proofs.Common.{◌≡◌, ◌∙◌, ◌+◌, ◌<◌, ℕ, length, ap, sym, arith}
-use Rattle.lf_lexer.specs.declared.lexed.Lexed.{Lexed}
+use Rattle.std.proofs.Common.{◌∙◌, ap, sym, arith}
 use Rattle.lf_lexer.specs.declared.tokens.Token.{Token}
 use Rattle.lf_lexer.specs.Lexing.{with_token}
 use Rattle.lf_lexer.proofs.LineEnds.{line_none, line_some, line_spaced}

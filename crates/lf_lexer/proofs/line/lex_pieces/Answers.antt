@@ -1,6 +1,6 @@
-use Rattle.std.proofs.Common.{◌≡◌, ◌∙◌, ◌+◌, ◌≤◌, ℕ, List, length, drop, sym, subst, arith, length-drop}
+use Rattle.std.proofs.Common.{◌∙◌, ◌+◌, ℕ, List, sym, subst, arith, length-drop}
 use Rattle.std.proofs.lemmas.Grind.{common_steps}
-use Rattle.lf_lexer.proofs.PieceSteps.{step_takes, step_piece, step_space, step_end, step_bad, pieces_start, PiecesSoFar}
+use Rattle.lf_lexer.proofs.PieceSteps.{step_takes, step_piece, step_space, step_end, step_bad, PiecesSoFar}
 use Rattle.lf_lexer.proofs.line.lex_pieces.Goals as goal
 
 pub returns-in-End-clause-lexed : goal.returns-in-End-clause-lexed

@@ -1,0 +1,12 @@
+use Rattle.std.proofs.Common.{◌∙◌, ap, sym}
+use Rattle.lf_base.specs.Texts.{with_text, text_at}
+use Rattle.lf_base.proofs.TextLemmas.{grows_self, list_any-with_text, place_of_grows, place_of-with_text, text_at-place_of}
+use Rattle.lf_base.proofs.laws.texts_keep_their_places.Goals as goal
+
+pub returns-clause-found : goal.returns-clause-found
+returns-clause-found c texts text =
+    ap (text_at (with_text texts text)) (sym (place_of-with_text texts (with_text texts text) text (grows_self (with_text texts text))))
+    ∙ text_at-place_of (with_text texts text) text (list_any-with_text texts text)
+
+pub returns-clause-kept : goal.returns-clause-kept
+returns-clause-kept c = place_of_grows
