@@ -1,1 +1,4 @@
+pub mod FaultTable
+pub mod Names
+pub mod PlainState
 pub mod RefusalKinds

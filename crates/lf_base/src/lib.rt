@@ -4,12 +4,22 @@
 //! one promises: a list type is, to contracts, the list of its items.
 #![tactic(auto)]
 
+mod behaviours;
+mod faults;
 mod ids;
 mod lists;
 mod memory;
 mod refusals;
+mod steps;
+mod stored;
+mod values;
 
-pub use ids::TextId;
-pub use lists::{Line, Lines, Listed, Order};
+pub use behaviours::{Job, Spawn};
+pub use faults::{Fault, FaultAt, HeapFail};
+pub use ids::{CownId, ObjId, TextId};
+pub use lists::{Cowns, Fields, Held, Line, Lines, Listed, Order, Spawns, Values};
 pub use memory::OutOfMemory;
 pub use refusals::{Place, ReadFail, Refusal, RefusalKind};
+pub use steps::Steps;
+pub use stored::Stored;
+pub use values::{Key, Op, Owner, Value};
