@@ -13,6 +13,7 @@ mod refusals;
 mod steps;
 mod stored;
 mod values;
+pub mod worked_rows;
 
 pub use behaviours::{Job, Spawn};
 pub use faults::{Fault, FaultAt, HeapFail};

@@ -1,0 +1,86 @@
+-- Suspects: how the rows that must go are found from the places where something was lost.
+use Rattle.std.specs.Prelude.{Bool, List, Some, [], false, filter, not, true, ◌++◌, ◌∷◌, ◌≡◌}
+use Rattle.lf_base.specs.declared.ids.ObjId.{ObjId}
+use Rattle.lf_base.specs.declared.values.Owner.TheVariants.{In, Local}
+use Rattle.lf_base.specs.Edges.{Edge, Field, edges, rows_edges}
+use Rattle.lf_base.specs.Kept.{is_owned_by, kept_rows, points, points_into}
+use Rattle.lf_base.specs.Names.{same_name}
+use Rattle.lf_base.specs.Owners.{has_row, owner_in}
+use Rattle.lf_base.specs.PlainState.{State}
+use Rattle.lf_base.specs.Sets.{Member}
+
+pub data Suspect : Type 0 where
+  Object : ObjId → Suspect
+  Region : ObjId → Suspect
+
+pub record MustGo (s : State) (o : ObjId) : Type 0 where
+  pub here : has_row s.rows o ≡ true
+  pub goes : has_row (kept_rows s) o ≡ false
+
+-- a field of row p leads to o
+abbrev pub LeadsTo : State → ObjId → ObjId → Type 0
+LeadsTo s p o = Member (record { from = Field p; to = o }) (rows_edges s.rows)
+
+-- the row hangs on a suspect; a region counts as one where its bridge must go
+pub data Hangs (s : State) (w : List Suspect) : ObjId → Type 0 where
+  itself : {o : ObjId} → Member (Object o) w → Hangs s w o
+  by_region : (r : ObjId) {o : ObjId} → owner_in s.rows o ≡ Some (In r) → MustGo s r → Member (Region r) w → Hangs s w o
+  by_row : (p : ObjId) {o : ObjId} → LeadsTo s p o → MustGo s p → Hangs s w p → Hangs s w o
+  by_row_into : (p q r : ObjId) {o : ObjId} → owner_in s.rows o ≡ Some (In r) → MustGo s r → owner_in s.rows q ≡ Some (In r) → LeadsTo s p q → MustGo s p → Hangs s w p → Hangs s w o
+
+abbrev pub AllHang : State → List Suspect → Type 0
+AllHang s w = (o : ObjId) → MustGo s o → Hangs s w o
+
+-- a region with neither owner nor borrow
+pub record Bare (s : State) (r : ObjId) : Type 0 where
+  pub unowned : is_owned_by s.rows s r ≡ false
+  pub unborrowed : points_into s.rows s r ≡ false
+
+-- the suspect is the region, or a row of it
+abbrev pub Watches : State → ObjId → Suspect → Type 0
+Watches s r (Region q) = q ≡ r
+Watches s r (Object o) = owner_in s.rows o ≡ Some (In r)
+
+abbrev pub WatchedBy : State → List Suspect → ObjId → Type 0
+WatchedBy s w r = (u : Suspect) × (Member u w × Watches s r u)
+
+-- each unit that nothing justifies is a suspect
+pub record Watched (s : State) (w : List Suspect) : Type 0 where
+  pub locals : (o : ObjId) → owner_in s.rows o ≡ Some Local → points s.rows s o ≡ false → Member (Object o) w
+  pub regions : (r : ObjId) → owner_in s.rows r ≡ Some (In r) → Bare s r → WatchedBy s w r
+  pub inners : (o r : ObjId) → owner_in s.rows o ≡ Some (In r) → same_name r o ≡ false → has_row (kept_rows s) r ≡ true → points s.rows s o ≡ false → Member (Object o) w
+
+-- the state without some of its rows
+abbrev pub without : State → (ObjId → Bool) → State
+without s gone = record s { rows = filter (λ r. not (gone r.name)) s.rows }
+
+-- rows that must go and to which no edge is left
+pub record CanGo (s : State) (gone : ObjId → Bool) : Type 0 where
+  pub must : (o : ObjId) → gone o ≡ true → MustGo s o
+  pub clear : (e : Edge) → Member e (edges (without s gone)) → gone e.to ≡ false
+  -- a bridge goes with its rows
+  pub whole : (o r : ObjId) → owner_in s.rows o ≡ Some (In r) → gone r ≡ true → gone o ≡ true
+  -- a bare region doesn't lose some of its rows alone
+  pub apart : (o r : ObjId) → owner_in s.rows o ≡ Some (In r) → gone o ≡ true → gone r ≡ false → Bare s r → ⊥
+
+-- the suspect goes
+abbrev pub Spent : (ObjId → Bool) → Suspect → Type 0
+Spent gone (Object o) = gone o ≡ true
+Spent gone (Region r) = gone r ≡ true
+
+-- what lost its last justification is a suspect
+pub record Renewed (s : State) (gone : ObjId → Bool) (new : List Suspect) : Type 0 where
+  pub locals : (o : ObjId) → owner_in (without s gone).rows o ≡ Some Local → points s.rows s o ≡ true → points (without s gone).rows (without s gone) o ≡ false → Member (Object o) new
+  pub regions : (r : ObjId) → owner_in (without s gone).rows r ≡ Some (In r) → (Bare s r → ⊥) → Bare (without s gone) r → WatchedBy (without s gone) new r
+  pub inners : (o r : ObjId) → owner_in (without s gone).rows o ≡ Some (In r) → same_name r o ≡ false → points s.rows s o ≡ true → points (without s gone).rows (without s gone) o ≡ false → Member (Object o) new
+
+-- the suspect has a justification, or has no row
+abbrev pub Idle : State → Suspect → Type 0
+Idle s (Object o) = (owner_in s.rows o ≡ Some Local → points s.rows s o ≡ true) × ((r : ObjId) → owner_in s.rows o ≡ Some (In r) → (Bare s r → ⊥) × (same_name r o ≡ false → points s.rows s o ≡ true))
+Idle s (Region r) = owner_in s.rows r ≡ Some (In r) → Bare s r → ⊥
+
+-- a whole run over the suspects
+pub data Run : State → List Suspect → State → Type 0 where
+  finish : {s : State} → Run s [] s
+  forget : {s t : State} {u : Suspect} {w : List Suspect} → Idle s u → Run s w t → Run s (u ∷ w) t
+  drop : {s t : State} {u : Suspect} {w : List Suspect} (gone : ObjId → Bool) (new : List Suspect) → CanGo s gone → Spent gone u → Renewed s gone new → Run (without s gone) (new ++ w) t → Run s (u ∷ w) t
