@@ -1,5 +1,0 @@
-use Rattle.std.proofs.Common.{refl}
-use Rattle.lf_base.proofs.worked_rows.closed_region.Goals as goal
-
-pub returns : goal.returns
-returns c = (refl, refl, refl, refl)

@@ -1,5 +1,0 @@
-use Rattle.std.proofs.Common.{refl}
-use Rattle.lf_base.proofs.worked_rows.living_cycle.Goals as goal
-
-pub returns : goal.returns
-returns c = refl
