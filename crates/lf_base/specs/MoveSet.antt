@@ -15,5 +15,5 @@ move_set s v = least (λ found row. is_local row.owner && (has_name (targets_of_
 
 -- such a path, by its last row: it begins at a local row that v names, and goes on to a local row that a field of the row before names
 pub data LocalPath (s : State) (v : Value) : Row → Type 0 where
-  begins : {y : Row} → Member y s.rows → y.owner ≡ Local → Member y.name (targets_of_value v) → LocalPath s v y
-  goes_on : {x y : Row} → LocalPath s v x → Member y s.rows → y.owner ≡ Local → Member y.name (field_targets x.fields) → LocalPath s v y
+  starts : {y : Row} → Member y s.rows → y.owner ≡ Local → Member y.name (targets_of_value v) → LocalPath s v y
+  continues : {x y : Row} → LocalPath s v x → Member y s.rows → y.owner ≡ Local → Member y.name (field_targets x.fields) → LocalPath s v y

@@ -43,6 +43,10 @@ pub data Above (s : State) : ObjId → ObjId → Type 0 where
   direct : {q r : ObjId} → owns s q r ≡ true → Above s q r
   step : {q p r : ObjId} → owns s q p ≡ true → Above s p r → Above s q r
 
+-- owners don't go round: no region is above itself
+abbrev pub NoRound : State → Type 0
+NoRound s = (r : ObjId) → Above s r r → ⊥
+
 -- the bridges below r: those that r owns, and those that one below r owns
 abbrev pub below : State → ObjId → List ObjId
 below s r = least (λ found c. owns s r c || list_any (λ q. owns s q c) found) (bridges s)
