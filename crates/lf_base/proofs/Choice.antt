@@ -59,16 +59,16 @@ module _ (s : State) (g : Setting s) where
   object_choice o (Some Frozen) h = idle ((λ k. absurd (frozen_local (sym h ∙ k))), (λ r k. absurd (frozen_in r (sym h ∙ k))))
   object_choice o (Some Local) h = local_choice o h (points s.rows s o) refl
   object_choice o (Some (In r)) h = elim (bare_test r) [
-      | inl b ↦ goes (of_region s g r) (region_in r (g.bridge o r h) b) (ap (is_in r) h ∙ same_name_itself r)
-      | inr n ↦ inner_choice o r h n (same_name r o) (points s.rows s o) refl refl
-    ]
+    | inl b ↦ goes (of_region s g r) (region_in r (g.bridge o r h) b) (ap (is_in r) h ∙ same_name_itself r)
+    | inr n ↦ inner_choice o r h n (same_name r o) (points s.rows s o) refl refl
+  ]
 
   region_choice : (r : ObjId) (b : Bool) → is_in r (owner_in s.rows r) ≡ b → Choice s (Region r)
   region_choice r false h = idle (λ k b. no_both _ (ap (is_in r) k ∙ same_name_itself r) h)
   region_choice r true h = elim (bare_test r) [
-      | inl b ↦ goes (of_region s g r) (region_in r (in_region r (owner_in s.rows r) h) b) h
-      | inr n ↦ idle (λ k b. n b)
-    ]
+    | inl b ↦ goes (of_region s g r) (region_in r (in_region r (owner_in s.rows r) h) b) h
+    | inr n ↦ idle (λ k b. n b)
+  ]
 
   pub choice : (u : Suspect) → Choice s u
   choice (Object o) = object_choice o (owner_in s.rows o) refl
@@ -81,7 +81,7 @@ module _ (s : State) (g : Setting s) (all : kept_rows s ≡ s.rows) where
 
   pub own_kept_watched : Watched s []
   own_kept_watched = record {
-      locals = λ o h n. absurd (no_both _ (there o Local h) n);
-      regions = λ r h b. absurd (no_both _ (there r (In r) h) (bare_region s g r b));
-      inners = λ o r h d k n. absurd (no_both _ (there o (In r) h) (bare_inner s g o r d n))
-    }
+    locals = λ o h n. absurd (no_both _ (there o Local h) n);
+    regions = λ r h b. absurd (no_both _ (there r (In r) h) (bare_region s g r b));
+    inners = λ o r h d k n. absurd (no_both _ (there o (In r) h) (bare_inner s g o r d n));
+  }

@@ -30,19 +30,19 @@ module _ (s after : State) (home : ObjId) (New : ObjId → Type 0) (o : Owned s 
 
   cut : {q r : ObjId} → Above after q r → Above s q r ⊎ Through q r
   cut (direct {q} {r} e) = elim (o.old_or_new q r e) [
-      | inl h ↦ inl (direct h)
-      | inr h ↦ inr (record { bridge = r; new = h.1; from = inl h.0; rest = inl refl })
-    ]
+    | inl h ↦ inl (direct h)
+    | inr h ↦ inr (record { bridge = r; new = h.1; from = inl h.0; rest = inl refl })
+  ]
   cut (step {q} {p} {r} e a) = elim (cut a) [
-      | inl b ↦ elim (o.old_or_new q p e) [
-          | inl h ↦ inl (step h b)
-          | inr h ↦ inr (record { bridge = p; new = h.1; from = inl h.0; rest = inr b })
-        ]
-      | inr t ↦ elim (o.old_or_new q p e) [
-          | inl h ↦ inr (record { bridge = t.bridge; new = t.new; from = to_step q p h t.from; rest = t.rest })
-          | inr h ↦ inr (record { bridge = t.bridge; new = t.new; from = inl h.0; rest = t.rest })
-        ]
+    | inl b ↦ elim (o.old_or_new q p e) [
+      | inl h ↦ inl (step h b)
+      | inr h ↦ inr (record { bridge = p; new = h.1; from = inl h.0; rest = inr b })
     ]
+    | inr t ↦ elim (o.old_or_new q p e) [
+      | inl h ↦ inr (record { bridge = t.bridge; new = t.new; from = to_step q p h t.from; rest = t.rest })
+      | inr h ↦ inr (record { bridge = t.bridge; new = t.new; from = inl h.0; rest = t.rest })
+    ]
+  ]
 
   join : {q p r : ObjId} → Above s q p → Above s p r → Above s q r
   join (direct e) b = step e b
@@ -56,12 +56,12 @@ module _ (s after : State) (home : ObjId) (New : ObjId → Type 0) (o : Owned s 
   -- no newly owned bridge was above the region: owners don't go round
   pub straight_after : NoRound s → ((b : ObjId) → New b → Above s b home → ⊥) → NoRound after
   straight_after flat clear r a = elim (cut a) [
-      | inl b ↦ flat r b
-      | inr t ↦ elim (meets t.bridge r t.new t.rest t.from) [
-          | inl h ↦ o.not_itself (subst New h t.new)
-          | inr b ↦ clear t.bridge t.new b
-        ]
+    | inl b ↦ flat r b
+    | inr t ↦ elim (meets t.bridge r t.new t.rest t.from) [
+      | inl h ↦ o.not_itself (subst New h t.new)
+      | inr b ↦ clear t.bridge t.new b
     ]
+  ]
 
   -- the way up to the region, until it is first met
   first_met : {q r : ObjId} → Above s q r → r ≡ home → same_name q home ≡ false → Above after q home

@@ -46,33 +46,35 @@ part s e m =
     elim (Member_of_append e (slot_edges s.slots) _ m) [
       | inl k ↦ elsewhere (λ n h d. Member_left e (slot_edges s.slots) _ k)
       | inr k ↦ elim (Member_of_append e (rows_edges s.rows) _ k) [
-          | inl y ↦ elsewhere (λ n h d. Member_right e (slot_edges s.slots) _ (Member_left e (rows_edges s.rows) _ y))
-          | inr n ↦ elim (Member_of_append e (content_edges s.held) _ n) [
-              | inl q ↦ in_content (Member_left e (content_edges s.held) _ q)
-              | inr q ↦ elim (Member_of_append e (content_edges s.made) _ q) [
-                  | inl z ↦ in_content (Member_right e (content_edges s.held) _ z)
-                  | inr z ↦ elsewhere (λ n h d. Member_right e (slot_edges s.slots) _ (Member_right e (rows_edges s.rows) _ (Member_right e (content_edges h) _ (Member_right e (content_edges d) _ z))))
-                ]
-            ]
+        | inl y ↦ elsewhere (λ n h d. Member_right e (slot_edges s.slots) _ (Member_left e (rows_edges s.rows) _ y))
+        | inr n ↦ elim (Member_of_append e (content_edges s.held) _ n) [
+          | inl q ↦ in_content (Member_left e (content_edges s.held) _ q)
+          | inr q ↦ elim (Member_of_append e (content_edges s.made) _ q) [
+            | inl z ↦ in_content (Member_right e (content_edges s.held) _ z)
+            | inr z ↦ elsewhere (λ n h d. Member_right e (slot_edges s.slots) _ (Member_right e (rows_edges s.rows) _ (Member_right e (content_edges h) _ (Member_right e (content_edges d) _ z))))
+          ]
         ]
+      ]
     ]
 
 content_edge : (s : State) (e : Edge) → Member e (contents s) → Member e (edges s)
 content_edge s e m = Member_right e (slot_edges s.slots) _ (Member_right e (rows_edges s.rows) _ (elim (Member_of_append e (content_edges s.held) (content_edges s.made) m) [
-    | inl k ↦ Member_left e (content_edges s.held) _ k
-    | inr k ↦ Member_right e (content_edges s.held) _ (Member_left e (content_edges s.made) _ k)
-  ]))
+  | inl k ↦ Member_left e (content_edges s.held) _ k
+  | inr k ↦ Member_right e (content_edges s.held) _ (Member_left e (content_edges s.made) _ k)
+]))
 
 count_parts : (p : Edge → Bool) (s : State) → count_by p (edges s) ≡ (count_by p (slot_edges s.slots) + count_by p (rows_edges s.rows)) + (count_by p (contents s) + count_by p (rows_edges s.given ++ rows_edges s.own))
 count_parts p s =
     let f : Edge → ℕ = λ e. cond (p e) 1 0 in
     let last : List Edge = rows_edges s.given ++ rows_edges s.own in
-    omega (arith,
+    omega (
+      arith,
       sum_by-append f (slot_edges s.slots) (rows_edges s.rows ++ (content_edges s.held ++ (content_edges s.made ++ last))),
       sum_by-append f (rows_edges s.rows) (content_edges s.held ++ (content_edges s.made ++ last)),
       sum_by-append f (content_edges s.held) (content_edges s.made ++ last),
       sum_by-append f (content_edges s.made) last,
-      sum_by-append f (content_edges s.held) (content_edges s.made))
+      sum_by-append f (content_edges s.held) (content_edges s.made),
+    )
 
 -- ---- a content replaced or added
 pub record Puts (s : State) (n : ℕ) (held made : List (CownId × Value)) (c : CownId) (v : Value) : Type 0 where
@@ -103,21 +105,21 @@ module _ (s : State) (n : ℕ) (held made : List (CownId × Value)) (c : CownId)
       elim (Member_of_append w (slot_values s.slots) _ m) [
         | inl k ↦ inl (Member_left w (slot_values s.slots) _ k)
         | inr k ↦ elim (Member_of_append w (field_values s.rows) _ k) [
-            | inl q ↦ inl (Member_right w (slot_values s.slots) _ (Member_left w (field_values s.rows) _ q))
-            | inr q ↦ elim (Member_of_append w (content_values held) _ q) [
-                | inl h ↦ elim (u.held_values w h) [
-                    | inl z ↦ inl (Member_right w (slot_values s.slots) _ (Member_right w (field_values s.rows) _ (Member_left w (content_values s.held) _ z)))
-                    | inr z ↦ inr z
-                  ]
-                | inr h ↦ elim (Member_of_append w (content_values made) _ h) [
-                    | inl y ↦ elim (u.made_values w y) [
-                        | inl z ↦ inl (Member_right w (slot_values s.slots) _ (Member_right w (field_values s.rows) _ (Member_right w (content_values s.held) _ (Member_left w (content_values s.made) _ z))))
-                        | inr z ↦ inr z
-                      ]
-                    | inr y ↦ inl (Member_right w (slot_values s.slots) _ (Member_right w (field_values s.rows) _ (Member_right w (content_values s.held) _ (Member_right w (content_values s.made) _ y))))
-                  ]
+          | inl q ↦ inl (Member_right w (slot_values s.slots) _ (Member_left w (field_values s.rows) _ q))
+          | inr q ↦ elim (Member_of_append w (content_values held) _ q) [
+            | inl h ↦ elim (u.held_values w h) [
+              | inl z ↦ inl (Member_right w (slot_values s.slots) _ (Member_right w (field_values s.rows) _ (Member_left w (content_values s.held) _ z)))
+              | inr z ↦ inr z
+            ]
+            | inr h ↦ elim (Member_of_append w (content_values made) _ h) [
+              | inl y ↦ elim (u.made_values w y) [
+                | inl z ↦ inl (Member_right w (slot_values s.slots) _ (Member_right w (field_values s.rows) _ (Member_right w (content_values s.held) _ (Member_left w (content_values s.made) _ z))))
+                | inr z ↦ inr z
               ]
+              | inr y ↦ inl (Member_right w (slot_values s.slots) _ (Member_right w (field_values s.rows) _ (Member_right w (content_values s.held) _ (Member_right w (content_values s.made) _ y))))
+            ]
           ]
+        ]
       ]
 
   grown : (d : ℕ) → IsNumber d s.cowns → IsNumber d n
@@ -136,9 +138,9 @@ module _ (s : State) (n : ℕ) (held made : List (CownId × Value)) (c : CownId)
 
   edge_after : (e : Edge) → Member e (edges after) → Member e (edges s) ⊎ Member e (edges_by (Content c) (targets_of_value v))
   edge_after e m = elim (part after e m) [
-      | elsewhere f ↦ inl (f s.cowns s.held s.made)
-      | in_content k ↦ elim (u.old_or_new e k) [ inl n ↦ inl (content_edge s e n) | inr n ↦ inr n ]
-    ]
+    | elsewhere f ↦ inl (f s.cowns s.held s.made)
+    | in_content k ↦ elim (u.old_or_new e k) [ inl n ↦ inl (content_edge s e n) | inr n ↦ inr n ]
+  ]
 
   new_from : (e : Edge) → Member e (edges_by (Content c) (targets_of_value v)) → (e.from ≡ Content c) × Member e.to (targets_of_value v)
   new_from e m = let o = Member_of_map (λ o. record { from = Content c; to = o }) e (targets_of_value v) m in
@@ -149,9 +151,9 @@ module _ (s : State) (n : ℕ) (held made : List (CownId × Value)) (c : CownId)
   target_leads o (Some Local) n e = absurd (some_fault _ e)
   target_leads o (Some Frozen) n e = refl
   target_leads o (Some (In q)) n e = elim (same_name q o) as (λ b. cond b (cond (ltb 1 (owning_edges after o)) (Some SecondOwner) None) (Some Interior) ≡ None → b ≡ true) [
-      | true ↦ λ k. refl
-      | false ↦ λ k. absurd (some_fault _ k)
-    ] e
+    | true ↦ λ k. refl
+    | false ↦ λ k. absurd (some_fault _ k)
+  ] e
 
   from_fields : (q : ObjId) (f : Source) → is_from s.rows q f ≡ true → f ≡ Content c → ⊥
   from_fields q f e h = let z : is_from s.rows q (Content c) ≡ true = ap (is_from s.rows q) (sym h) ∙ e in cc
@@ -169,9 +171,9 @@ module _ (s : State) (n : ℕ) (held made : List (CownId × Value)) (c : CownId)
   round_after : round after ≡ []
   round_after = within_nil (round after) (λ r m. subst (λ l. Member r l) t.no_round
       (greatest_has (λ qs r. list_any (λ q. owns s q r) qs) (λ xs ys x w k. any_more (λ q. owns s q x) xs ys w k) (bridges s) (round after)
-        (λ q k. any_weaker (λ p. owns after p q) (λ p. owns s p q) (round after) (λ p n h. owns_before p q h) (greatest_meets (λ qs r. list_any (λ q. owns after q r) qs) (bridges after) q k))
-        (λ q k. sub_within (sub_shrink (λ qs r. list_any (λ q. owns after q r) qs) (length (bridges after)) (bridges after)) q k)
-        r m))
+      (λ q k. any_weaker (λ p. owns after p q) (λ p. owns s p q) (round after) (λ p n h. owns_before p q h) (greatest_meets (λ qs r. list_any (λ q. owns after q r) qs) (bridges after) q k))
+      (λ q k. sub_within (sub_shrink (λ qs r. list_any (λ q. owns after q r) qs) (length (bridges after)) (bridges after)) q k)
+      r m))
 
   abbrev owning : ObjId → Edge → Bool
   owning r d = is_owning s.rows d.from r && same_name d.to r
@@ -199,47 +201,47 @@ module _ (s : State) (n : ℕ) (held made : List (CownId × Value)) (c : CownId)
 
   pub content_leads : content_fault after v ≡ None → Leads after
   content_leads e d m = elim (edge_after d m) [
-      | inl k ↦ lead_as d.from d.to (t.leads d k)
-      | inr k ↦ let n = new_from d k in elim (values v) [
-          | inl z ↦ absurd (subst (λ l. Member d.to l) z n.1)
-          | inr z ↦ ap (λ f. may_lead after f d.to) n.0
-              ∙ subst (λ o. from_content o (owner_of s o) ≡ true) (single z.0 d.to z.1 n.1)
-                  (target_leads z.0 (owner_of s z.0) (may.object_there z.0 (subst (λ l. Member z.0 l) (sym z.1) (inl refl))) (sym (fault_at z.0 z.1) ∙ e))
-        ]
+    | inl k ↦ lead_as d.from d.to (t.leads d k)
+    | inr k ↦ let n = new_from d k in elim (values v) [
+      | inl z ↦ absurd (subst (λ l. Member d.to l) z n.1)
+      | inr z ↦ ap (λ f. may_lead after f d.to) n.0
+          ∙ subst (λ o. from_content o (owner_of s o) ≡ true) (single z.0 d.to z.1 n.1)
+          (target_leads z.0 (owner_of s z.0) (may.object_there z.0 (subst (λ l. Member z.0 l) (sym z.1) (inl refl))) (sym (fault_at z.0 z.1) ∙ e))
     ]
+  ]
 
   one_after : content_fault after v ≡ None → (r : ObjId) → is_bridge s.rows r ≡ true → owning_edges after r ≤ 1
   one_after e r b = elim (values v) [
-      | inl z ↦ let n = none_new r (λ o m. absurd (subst (λ l. Member o l) z m)) in omega (arith, owning_le r, n, t.one_owner r b)
-      | inr z ↦ elim (same_name z.0 r) as (λ x. same_name z.0 r ≡ x → owning_edges after r ≤ 1) [
-          | true ↦ λ h.
-              let same : z.0 ≡ r = same_name_is z.0 r h in
-              let own : owner_of s z.0 ≡ Some (In z.0) = ap (or_frozen (has_row s.given z.0 || has_row s.own z.0)) (subst (λ n. owner_in s.rows n ≡ Some (In n)) (sym same) (in_region r (owner_in s.rows r) b)) in
-              let quiet : target_fault after z.0 (Some (In z.0)) ≡ None = ap (target_fault after z.0) (sym own) ∙ sym (fault_at z.0 z.1) ∙ e in
-              let test : cond (ltb 1 (owning_edges after z.0)) (Some SecondOwner) None ≡ None = sym (ap (λ c. cond c (cond (ltb 1 (owning_edges after z.0)) (Some SecondOwner) None) (Some Interior)) (same_name_itself z.0)) ∙ quiet in
-              subst (λ n. owning_edges after n ≤ 1) same (few _ (test_is _ _ test))
-          | false ↦ λ h. let n = none_new r (λ o m. ap (λ q. same_name q r) (sym (single z.0 o z.1 m)) ∙ h) in omega (arith, owning_le r, n, t.one_owner r b)
-        ] refl
-    ]
+    | inl z ↦ let n = none_new r (λ o m. absurd (subst (λ l. Member o l) z m)) in omega (arith, owning_le r, n, t.one_owner r b)
+    | inr z ↦ elim (same_name z.0 r) as (λ x. same_name z.0 r ≡ x → owning_edges after r ≤ 1) [
+      | true ↦ λ h.
+          let same : z.0 ≡ r = same_name_is z.0 r h in
+          let own : owner_of s z.0 ≡ Some (In z.0) = ap (or_frozen (has_row s.given z.0 || has_row s.own z.0)) (subst (λ n. owner_in s.rows n ≡ Some (In n)) (sym same) (in_region r (owner_in s.rows r) b)) in
+          let quiet : target_fault after z.0 (Some (In z.0)) ≡ None = ap (target_fault after z.0) (sym own) ∙ sym (fault_at z.0 z.1) ∙ e in
+          let test : cond (ltb 1 (owning_edges after z.0)) (Some SecondOwner) None ≡ None = sym (ap (λ c. cond c (cond (ltb 1 (owning_edges after z.0)) (Some SecondOwner) None) (Some Interior)) (same_name_itself z.0)) ∙ quiet in
+          subst (λ n. owning_edges after n ≤ 1) same (few _ (test_is _ _ test))
+      | false ↦ λ h. let n = none_new r (λ o m. ap (λ q. same_name q r) (sym (single z.0 o z.1 m)) ∙ h) in omega (arith, owning_le r, n, t.one_owner r b)
+    ] refl
+  ]
 
   pub content_keeps : content_fault after v ≡ None → WellFormed after
   content_keeps e = record {
-      rows_rise = t.rows_rise;
-      given_rise = t.given_rise;
-      own_rise = t.own_rise;
-      names_differ = t.names_differ;
-      keys_differ = t.keys_differ;
-      mutable = t.mutable;
-      frozen = t.frozen;
-      bridge = t.bridge;
-      leads = content_leads e;
-      one_owner = one_after e;
-      no_round = round_after;
-      objects_numbered = t.objects_numbered;
-      cowns_numbered = numbered_after;
-      cowns_differ = u.differ;
-      made_here = u.here
-    }
+    rows_rise = t.rows_rise;
+    given_rise = t.given_rise;
+    own_rise = t.own_rise;
+    names_differ = t.names_differ;
+    keys_differ = t.keys_differ;
+    mutable = t.mutable;
+    frozen = t.frozen;
+    bridge = t.bridge;
+    leads = content_leads e;
+    one_owner = one_after e;
+    no_round = round_after;
+    objects_numbered = t.objects_numbered;
+    cowns_numbered = numbered_after;
+    cowns_differ = u.differ;
+    made_here = u.here;
+  }
 
   content_quiet_at : WellFormed after → (o : ObjId) → Member (record { from = Content c; to = o }) (edges after) → (w : Option Owner) → owner_of s o ≡ w → target_fault after o w ≡ None
   content_quiet_at g o m None h = refl
@@ -253,11 +255,11 @@ module _ (s : State) (n : ℕ) (held made : List (CownId × Value)) (c : CownId)
 
   pub content_quiet : WellFormed after → content_fault after v ≡ None
   content_quiet g = elim (values v) [
-      | inl z ↦ ap (targets_fault after) z
-      | inr z ↦ fault_at z.0 z.1 ∙ content_quiet_at g z.0
-          (content_edge after (record { from = Content c; to = z.0 }) (u.there (record { from = Content c; to = z.0 }) (subst (λ l. Member (record { from = Content c; to = z.0 }) (edges_by (Content c) l)) (sym z.1) (inl refl))))
-          (owner_of s z.0) refl
-    ]
+    | inl z ↦ ap (targets_fault after) z
+    | inr z ↦ fault_at z.0 z.1 ∙ content_quiet_at g z.0
+        (content_edge after (record { from = Content c; to = z.0 }) (u.there (record { from = Content c; to = z.0 }) (subst (λ l. Member (record { from = Content c; to = z.0 }) (edges_by (Content c) l)) (sym z.1) (inl refl))))
+        (owner_of s z.0) refl
+  ]
 
 -- ---- a held cown's content, and a new cown's
 cown_is : (a b : CownId) → same_cown a b ≡ true → a ≡ b
@@ -268,13 +270,13 @@ put_old_or_new [] c v e m = absurd m
 put_old_or_new (h ∷ hs) c v e m =
     elim (same_cown h.0 c) as (λ b. same_cown h.0 c ≡ b → Member e (content_edges (cond b ((h.0, v) ∷ hs) (h ∷ put_content hs c v))) → Member e (content_edges (h ∷ hs)) ⊎ Member e (edges_by (Content c) (targets_of_value v))) [
       | true ↦ λ k n. elim (Member_of_append e (edges_by (Content h.0) (targets_of_value v)) (content_edges hs) n) [
-          | inl q ↦ inr (subst (λ d. Member e (edges_by (Content d) (targets_of_value v))) (cown_is h.0 c k) q)
-          | inr q ↦ inl (Member_right e (edges_by (Content h.0) (targets_of_value h.1)) (content_edges hs) q)
-        ]
+        | inl q ↦ inr (subst (λ d. Member e (edges_by (Content d) (targets_of_value v))) (cown_is h.0 c k) q)
+        | inr q ↦ inl (Member_right e (edges_by (Content h.0) (targets_of_value h.1)) (content_edges hs) q)
+      ]
       | false ↦ λ k n. elim (Member_of_append e (edges_by (Content h.0) (targets_of_value h.1)) (content_edges (put_content hs c v)) n) [
-          | inl q ↦ inl (Member_left e (edges_by (Content h.0) (targets_of_value h.1)) (content_edges hs) q)
-          | inr q ↦ elim (put_old_or_new hs c v e q) [ inl z ↦ inl (Member_right e (edges_by (Content h.0) (targets_of_value h.1)) (content_edges hs) z) | inr z ↦ inr z ]
-        ]
+        | inl q ↦ inl (Member_left e (edges_by (Content h.0) (targets_of_value h.1)) (content_edges hs) q)
+        | inr q ↦ elim (put_old_or_new hs c v e q) [ inl z ↦ inl (Member_right e (edges_by (Content h.0) (targets_of_value h.1)) (content_edges hs) z) | inr z ↦ inr z ]
+      ]
     ] refl m
 
 put_count : (p : Edge → Bool) (hs : List (CownId × Value)) (c : CownId) (v : Value) → count_by p (content_edges (put_content hs c v)) ≤ count_by p (content_edges hs) + count_by p (edges_by (Content c) (targets_of_value v))
@@ -315,19 +317,19 @@ held_names s c v = ap (λ l. l ++ map (λ (h : CownId × Value). h.0) s.made) (p
 
 held_puts : (s : State) (c : CownId) (v : Value) → has_cown s.held c ≡ true → WellFormed s → Puts s s.cowns (put_content s.held c v) s.made c v
 held_puts s c v h t = record {
-    old_or_new = λ e m. elim (Member_of_append e (content_edges (put_content s.held c v)) (content_edges s.made) m) [
-        | inl k ↦ elim (put_old_or_new s.held c v e k) [ inl n ↦ inl (Member_left e (content_edges s.held) (content_edges s.made) n) | inr n ↦ inr n ]
-        | inr k ↦ inl (Member_right e (content_edges s.held) (content_edges s.made) k)
-      ];
-    count = λ p. omega (arith, put_count p s.held c v, sum_by-append (λ e. cond (p e) 1 0) (content_edges (put_content s.held c v)) (content_edges s.made), sum_by-append (λ e. cond (p e) 1 0) (content_edges s.held) (content_edges s.made));
-    there = λ e m. Member_left e (content_edges (put_content s.held c v)) (content_edges s.made) (put_there s.held c v h e m);
-    held_values = put_contents s.held c v;
-    made_values = λ w m. inl m;
-    more = omega arith;
-    numbered = λ d m e. t.cowns_numbered d (Member_left d (own_cowns s) (flat_map cowns_of_value (all_values s)) (subst (Member d) (held_names s c v) m)) e;
-    differ = subst (Differ same_cown) (sym (held_names s c v)) t.cowns_differ;
-    here = t.made_here
-  }
+  old_or_new = λ e m. elim (Member_of_append e (content_edges (put_content s.held c v)) (content_edges s.made) m) [
+    | inl k ↦ elim (put_old_or_new s.held c v e k) [ inl n ↦ inl (Member_left e (content_edges s.held) (content_edges s.made) n) | inr n ↦ inr n ]
+    | inr k ↦ inl (Member_right e (content_edges s.held) (content_edges s.made) k)
+  ];
+  count = λ p. omega (arith, put_count p s.held c v, sum_by-append (λ e. cond (p e) 1 0) (content_edges (put_content s.held c v)) (content_edges s.made), sum_by-append (λ e. cond (p e) 1 0) (content_edges s.held) (content_edges s.made));
+  there = λ e m. Member_left e (content_edges (put_content s.held c v)) (content_edges s.made) (put_there s.held c v h e m);
+  held_values = put_contents s.held c v;
+  made_values = λ w m. inl m;
+  more = omega arith;
+  numbered = λ d m e. t.cowns_numbered d (Member_left d (own_cowns s) (flat_map cowns_of_value (all_values s)) (subst (Member d) (held_names s c v) m)) e;
+  differ = subst (Differ same_cown) (sym (held_names s c v)) t.cowns_differ;
+  here = t.made_here;
+}
 
 -- the law for a held cown, both ways
 pub content_law : (s : State) (c : CownId) (v : Value) → has_cown s.held c ≡ true → WellFormed s → SlotMayHold s v
@@ -358,13 +360,14 @@ fresh_cown s t d m = false_by _ (λ e.
 
 differ_more : (cs : List CownId) (d : CownId) → Differ same_cown cs → ((c : CownId) → Member c cs → same_cown d c ≡ false) → Differ same_cown (cs ++ d ∷ [])
 differ_more [] d h f = (refl, tt)
-differ_more (c ∷ cs) d h f =
-    (false_by _ (λ e. let t = any_Member (λ y. same_cown y c) (cs ++ d ∷ []) e in
-        elim (Member_of_append t.0 cs (d ∷ []) t.1.0) [
-          | inl k ↦ no_both _ (Member_any (λ y. same_cown y c) t.0 cs k t.1.1) h.0
-          | inr k ↦ elim k [ inl z ↦ no_both _ (ap (λ y. same_cown y c) z ∙ t.1.1) (f c (inl refl)) | inr z ↦ z ]
-        ]),
-     differ_more cs d h.1 (λ z m. f z (inr m)))
+differ_more (c ∷ cs) d h f = (
+  false_by _ (λ e. let t = any_Member (λ y. same_cown y c) (cs ++ d ∷ []) e in
+      elim (Member_of_append t.0 cs (d ∷ []) t.1.0) [
+        | inl k ↦ no_both _ (Member_any (λ y. same_cown y c) t.0 cs k t.1.1) h.0
+        | inr k ↦ elim k [ inl z ↦ no_both _ (ap (λ y. same_cown y c) z ∙ t.1.1) (f c (inl refl)) | inr z ↦ z ]
+      ]),
+  differ_more cs d h.1 (λ z m. f z (inr m)),
+)
 
 map_more : {X Y : Type 0} (f : X → Y) (xs : List X) (x : X) → map f (xs ++ x ∷ []) ≡ map f xs ++ f x ∷ []
 map_more f [] x = refl
@@ -382,35 +385,41 @@ made_puts s v t =
     let more : content_edges (s.made ++ (c, v) ∷ []) ≡ content_edges s.made ++ new = content_more s.made c v in
     record {
       old_or_new = λ e m. elim (Member_of_append e (content_edges s.held) (content_edges (s.made ++ (c, v) ∷ [])) m) [
-          | inl k ↦ inl (Member_left e (content_edges s.held) (content_edges s.made) k)
-          | inr k ↦ elim (Member_of_append e (content_edges s.made) new (subst (Member e) more k)) [
-              | inl n ↦ inl (Member_right e (content_edges s.held) (content_edges s.made) n)
-              | inr n ↦ inr n
-            ]
-        ];
-      count = λ p. omega (arith, ap (count_by p) more, sum_by-append (λ e. cond (p e) 1 0) (content_edges s.made) new,
-        sum_by-append (λ e. cond (p e) 1 0) (content_edges s.held) (content_edges (s.made ++ (c, v) ∷ [])), sum_by-append (λ e. cond (p e) 1 0) (content_edges s.held) (content_edges s.made));
+        | inl k ↦ inl (Member_left e (content_edges s.held) (content_edges s.made) k)
+        | inr k ↦ elim (Member_of_append e (content_edges s.made) new (subst (Member e) more k)) [
+          | inl n ↦ inl (Member_right e (content_edges s.held) (content_edges s.made) n)
+          | inr n ↦ inr n
+        ]
+      ];
+      count = λ p. omega (
+        arith,
+        ap (count_by p) more,
+        sum_by-append (λ e. cond (p e) 1 0) (content_edges s.made) new,
+        sum_by-append (λ e. cond (p e) 1 0) (content_edges s.held) (content_edges (s.made ++ (c, v) ∷ [])),
+        sum_by-append (λ e. cond (p e) 1 0) (content_edges s.held) (content_edges s.made),
+      );
       there = λ e m. Member_right e (content_edges s.held) (content_edges (s.made ++ (c, v) ∷ [])) (subst (Member e) (sym more) (Member_right e (content_edges s.made) new m));
       held_values = λ w m. inl m;
       made_values = λ w m. elim (Member_of_append w (content_values s.made) (v ∷ []) (subst (Member w) (map_more (λ (h : CownId × Value). h.1) s.made (c, v)) m)) [
-          | inl k ↦ inl k
-          | inr k ↦ elim k [ inl e ↦ inr e | inr z ↦ absurd z ]
-        ];
+        | inl k ↦ inl k
+        | inr k ↦ elim k [ inl e ↦ inr e | inr z ↦ absurd z ]
+      ];
       more = omega arith;
       numbered = λ d m e. elim (Member_of_append d (own_cowns s) (c ∷ []) (subst (Member d) (made_names s v) m)) [
-          | inl k ↦ let n = t.cowns_numbered d (Member_left d (own_cowns s) (flat_map cowns_of_value (all_values s)) k) e in (n.0, omega (arith, n.1))
-          | inr k ↦ elim k [ inl z ↦ subst (λ (b : CownId). IsNumber b.seq (s.cowns + 1)) z (omega arith, omega arith) | inr z ↦ absurd z ]
-        ];
+        | inl k ↦ let n = t.cowns_numbered d (Member_left d (own_cowns s) (flat_map cowns_of_value (all_values s)) k) e in (n.0, omega (arith, n.1))
+        | inr k ↦ elim k [ inl z ↦ subst (λ (b : CownId). IsNumber b.seq (s.cowns + 1)) z (omega arith, omega arith) | inr z ↦ absurd z ]
+      ];
       differ = subst (Differ same_cown) (sym (made_names s v)) (differ_more (own_cowns s) c t.cowns_differ (fresh_cown s t));
       here = λ d m. elim (Member_of_append d (map (λ (h : CownId × Value). h.0) s.made) (c ∷ []) (subst (Member d) (map_more (λ (h : CownId × Value). h.0) s.made (c, v)) m)) [
-          | inl k ↦ t.made_here d k
-          | inr k ↦ elim k [ inl z ↦ ap (λ (b : CownId). b.birth) (sym z) | inr z ↦ absurd z ]
-        ]
+        | inl k ↦ t.made_here d k
+        | inr k ↦ elim k [ inl z ↦ ap (λ (b : CownId). b.birth) (sym z) | inr z ↦ absurd z ]
+      ];
     }
 
 -- the law for a new cown, both ways
 pub made_law : (s : State) (v : Value) → WellFormed s → SlotMayHold s v
     → (content_fault (made_result s v) v ≡ None → WellFormed (made_result s v)) × (WellFormed (made_result s v) → content_fault (made_result s v) v ≡ None)
-made_law s v t may =
-    (content_keeps s (s.cowns + 1) s.held (s.made ++ (next_cown s, v) ∷ []) (next_cown s) v (made_puts s v t) t may,
-     content_quiet s (s.cowns + 1) s.held (s.made ++ (next_cown s, v) ∷ []) (next_cown s) v (made_puts s v t) t may)
+made_law s v t may = (
+  content_keeps s (s.cowns + 1) s.held (s.made ++ (next_cown s, v) ∷ []) (next_cown s) v (made_puts s v t) t may,
+  content_quiet s (s.cowns + 1) s.held (s.made ++ (next_cown s, v) ∷ []) (next_cown s) v (made_puts s v t) t may,
+)

@@ -79,12 +79,12 @@ write_hits o [] x k v row d e = cc
 write_hits o (r ∷ rs) x k v row d e =
     let h : Row → ℕ = λ q. field_hits o q.fields in
     elim (same_name r.name x) as (λ b. same_name r.name x ≡ b → cond b (Some r) (row_at rs x) ≡ Some row →
-        rows_hits o (cond b (record r { fields = put_field r.fields k v }) r ∷ write_fields rs x k v) + hits_maybe o (field_at row.fields k) ≡ rows_hits o (r ∷ rs) + hits o v) [
+    rows_hits o (cond b (record r { fields = put_field r.fields k v }) r ∷ write_fields rs x k v) + hits_maybe o (field_at row.fields k) ≡ rows_hits o (r ∷ rs) + hits o v) [
       | true ↦ λ same found.
           let here : r ≡ row = cc in
           let rest : write_fields rs x k v ≡ rs = write_nowhere rs x k v (ap (has_row rs) (sym (same_name_is r.name x same)) ∙ d.0) in
           subst (λ (w : Row). rows_hits o (record r { fields = put_field r.fields k v } ∷ write_fields rs x k v) + hits_maybe o (field_at w.fields k) ≡ rows_hits o (r ∷ rs) + hits o v) here
-            (omega (arith, sum_by-cons h (record r { fields = put_field r.fields k v }) (write_fields rs x k v), sum_by-cons h r rs, put_field_hits o r.fields k v, ap (rows_hits o) rest))
+          (omega (arith, sum_by-cons h (record r { fields = put_field r.fields k v }) (write_fields rs x k v), sum_by-cons h r rs, put_field_hits o r.fields k v, ap (rows_hits o) rest))
       | false ↦ λ same found.
           omega (arith, sum_by-cons h r (write_fields rs x k v), sum_by-cons h r rs, write_hits o rs x k v row d.1 found)
     ] refl e
@@ -102,5 +102,11 @@ refs_write s x k v o row d e =
     let p : Edge → Bool = λ e. same_name e.to o in
     let rest : List Edge = content_edges s.held ++ (content_edges s.made ++ (rows_edges s.given ++ rows_edges s.own)) in
     let new : List Row = write_fields s.rows x k v in
-    omega (arith, count_middle p (slot_edges s.slots) (rows_edges s.rows) rest, count_middle p (slot_edges s.slots) (rows_edges new) rest,
-        count_rows_edges o s.rows, count_rows_edges o new, write_hits o s.rows x k v row d e)
+    omega (
+      arith,
+      count_middle p (slot_edges s.slots) (rows_edges s.rows) rest,
+      count_middle p (slot_edges s.slots) (rows_edges new) rest,
+      count_rows_edges o s.rows,
+      count_rows_edges o new,
+      write_hits o s.rows x k v row d e,
+    )

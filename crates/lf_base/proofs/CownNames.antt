@@ -31,13 +31,13 @@ write_values [] x k v w m = absurd m
 write_values (r ∷ rs) x k v w m =
     elim (same_name r.name x) as (λ b. Member w (map (λ (f : Key × Value). f.1) (cond b (record r { fields = put_field r.fields k v }) r).fields ++ field_values (write_fields rs x k v)) → Member w (field_values (r ∷ rs)) ⊎ (v ≡ w)) [
       | true ↦ λ n. elim (Member_of_append w (map (λ (f : Key × Value). f.1) (put_field r.fields k v)) (field_values (write_fields rs x k v)) n) [
-          | inl h ↦ elim (put_values r.fields k v w h) [ inl q ↦ inl (Member_left w (map (λ (f : Key × Value). f.1) r.fields) (field_values rs) q) | inr q ↦ inr q ]
-          | inr h ↦ elim (write_values rs x k v w h) [ inl q ↦ inl (Member_right w (map (λ (f : Key × Value). f.1) r.fields) (field_values rs) q) | inr q ↦ inr q ]
-        ]
+        | inl h ↦ elim (put_values r.fields k v w h) [ inl q ↦ inl (Member_left w (map (λ (f : Key × Value). f.1) r.fields) (field_values rs) q) | inr q ↦ inr q ]
+        | inr h ↦ elim (write_values rs x k v w h) [ inl q ↦ inl (Member_right w (map (λ (f : Key × Value). f.1) r.fields) (field_values rs) q) | inr q ↦ inr q ]
+      ]
       | false ↦ λ n. elim (Member_of_append w (map (λ (f : Key × Value). f.1) r.fields) (field_values (write_fields rs x k v)) n) [
-          | inl h ↦ inl (Member_left w (map (λ (f : Key × Value). f.1) r.fields) (field_values rs) h)
-          | inr h ↦ elim (write_values rs x k v w h) [ inl q ↦ inl (Member_right w (map (λ (f : Key × Value). f.1) r.fields) (field_values rs) q) | inr q ↦ inr q ]
-        ]
+        | inl h ↦ inl (Member_left w (map (λ (f : Key × Value). f.1) r.fields) (field_values rs) h)
+        | inr h ↦ elim (write_values rs x k v w h) [ inl q ↦ inl (Member_right w (map (λ (f : Key × Value). f.1) r.fields) (field_values rs) q) | inr q ↦ inr q ]
+      ]
     ] m
 
 -- a relabelling leaves the values
@@ -73,7 +73,7 @@ values_by_rows s rows v h w m =
     elim (Member_of_append w (slot_values s.slots) (field_values rows ++ values_after_rows s) m) [
       | inl n ↦ inl (Member_left w (slot_values s.slots) _ n)
       | inr n ↦ elim (Member_of_append w (field_values rows) (values_after_rows s) n) [
-          | inl q ↦ elim (h w q) [ inl z ↦ inl (Member_right w (slot_values s.slots) _ (Member_left w (field_values s.rows) _ z)) | inr z ↦ inr z ]
-          | inr q ↦ inl (Member_right w (slot_values s.slots) _ (Member_right w (field_values s.rows) _ q))
-        ]
+        | inl q ↦ elim (h w q) [ inl z ↦ inl (Member_right w (slot_values s.slots) _ (Member_left w (field_values s.rows) _ z)) | inr z ↦ inr z ]
+        | inr q ↦ inl (Member_right w (slot_values s.slots) _ (Member_right w (field_values s.rows) _ q))
+      ]
     ]

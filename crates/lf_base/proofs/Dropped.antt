@@ -5,7 +5,7 @@ use Rattle.lf_base.specs.declared.ids.ObjId.{ObjId}
 use Rattle.lf_base.specs.declared.values.Owner.{Owner}
 use Rattle.lf_base.specs.declared.values.Owner.TheVariants.{Frozen, In, Local}
 use Rattle.lf_base.specs.Edges.{Content, Edge, Field, Slot, Source, content_edges, row_edges, rows_edges, slot_edges}
-use Rattle.lf_base.specs.Kept.{is_owned_by, kept, kept_rows, points, points_into, stays, stays_by_owner}
+use Rattle.lf_base.specs.Kept.{is_owned_by, kept_rows, points, points_into, stays, stays_by_owner}
 use Rattle.lf_base.specs.Names.{same_name}
 use Rattle.lf_base.specs.Owners.{has_row, is_in, is_local_at, owner_in, row_at, row_owner}
 use Rattle.lf_base.specs.Ownership.{is_in_other, is_owning}
@@ -202,9 +202,9 @@ leans s b r e m near inside =
     let one : stays_by_owner s more r (In r) ≡ true = ap (λ c. cond c (is_owned_by more s r || points_into more s r) (has_row more r && points more s r)) (same_name_itself r) ∙ ap (λ c. is_owned_by more s r || c) into ∙ or_true (is_owned_by more s r) in
     let there : has_row more r ≡ true = ap (λ c. c || has_row (row.row ∷ kept_rows s) r) (ap (λ n. same_name n r) bridge.name ∙ same_name_itself r) in
     let two : stays_by_owner s more e.to (In r) ≡ true = elim (same_name r e.to) as (λ c. cond c (is_owned_by more s r || points_into more s r) (has_row more r && points more s e.to) ≡ true) [
-        | true ↦ ap (λ c. is_owned_by more s r || c) into ∙ or_true (is_owned_by more s r)
-        | false ↦ and_join _ _ there to
-      ] in
+      | true ↦ ap (λ c. is_owned_by more s r || c) into ∙ or_true (is_owned_by more s r)
+      | false ↦ and_join _ _ there to
+    ] in
     let meets : Meets (stays s) more = more_meets s bridge.row row.row (kept_rows s) (ap₂ (stays_by_owner s more) bridge.name bridge.owner ∙ one) (ap₂ (stays_by_owner s more) row.name row.owner ∙ two) (kept_meets s) in
     let kept : Member row.row (kept_rows s) = kept_has s more meets (three_within s bridge.row row.row bridge.mem row.mem) row.row (inr (inl refl)) in
     sym (ap (has_row (kept_rows s)) row.name) ∙ mem_has row.row (kept_rows s) kept
@@ -237,9 +237,9 @@ owning_kept s d gone e r m own =
       | inl k ↦ let f = from_kept s d gone e k in
           ap (λ z. is_owning (dropped s d).rows z r) f.1.0 ∙ ap (is_in_other r) (owner_dropped s.rows d f.0 f.1.1) ∙ sym (ap (λ z. is_owning s.rows z r) f.1.0) ∙ own
       | inr k ↦ elim (Member_of_append e (content_edges s.held) (content_edges s.made) k) [
-          | inl n ↦ let t = Member_of_flat_map _ e s.held n in let o = Member_of_map _ e _ t.1.1 in ap (λ (z : Edge). is_owning (dropped s d).rows z.from r) (sym o.1.1)
-          | inr n ↦ let t = Member_of_flat_map _ e s.made n in let o = Member_of_map _ e _ t.1.1 in ap (λ (z : Edge). is_owning (dropped s d).rows z.from r) (sym o.1.1)
-        ]
+        | inl n ↦ let t = Member_of_flat_map _ e s.held n in let o = Member_of_map _ e _ t.1.1 in ap (λ (z : Edge). is_owning (dropped s d).rows z.from r) (sym o.1.1)
+        | inr n ↦ let t = Member_of_flat_map _ e s.made n in let o = Member_of_map _ e _ t.1.1 in ap (λ (z : Edge). is_owning (dropped s d).rows z.from r) (sym o.1.1)
+      ]
     ]
 
 pub in_region : (r : ObjId) (w : Option Owner) → is_in r w ≡ true → w ≡ Some (In r)
@@ -280,6 +280,6 @@ kept_more s b d gone = kept_has (dropped s d) (kept_rows s) (λ x m. stays_still
 pub kept_dropped : (s : State) → Bridged s → (d : ObjId) → has_row (kept_rows s) d ≡ false → kept_rows (dropped s d) ≡ kept_rows s
 kept_dropped s b d gone =
     sub_same (kept_rows (dropped s d)) (kept_rows s) s.rows b.distinct
-      (sub_then (sub_shrink (stays (dropped s d)) (length (dropped s d).rows) (dropped s d).rows) (sub_filter _ s.rows))
-      (sub_shrink (stays s) (length s.rows) s.rows)
-      (kept_less s d) (kept_more s b d gone)
+    (sub_then (sub_shrink (stays (dropped s d)) (length (dropped s d).rows) (dropped s d).rows) (sub_filter _ s.rows))
+    (sub_shrink (stays s) (length s.rows) s.rows)
+    (kept_less s d) (kept_more s b d gone)

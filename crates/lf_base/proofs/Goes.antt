@@ -49,12 +49,12 @@ near_in s = Within_append (slot_edges s.slots) (slot_edges s.slots) (rows_edges 
 
 owners_in : (s : State) → Within (rows_edges s.rows ++ (content_edges s.held ++ content_edges s.made)) (edges s)
 owners_in s e m = Member_right e (slot_edges s.slots) _ (elim (Member_of_append e (rows_edges s.rows) (content_edges s.held ++ content_edges s.made) m) [
-    | inl k ↦ Member_left e (rows_edges s.rows) _ k
-    | inr k ↦ Member_right e (rows_edges s.rows) _ (elim (Member_of_append e (content_edges s.held) (content_edges s.made) k) [
-        | inl n ↦ Member_left e (content_edges s.held) _ n
-        | inr n ↦ Member_right e (content_edges s.held) _ (Member_left e (content_edges s.made) _ n)
-      ])
+  | inl k ↦ Member_left e (rows_edges s.rows) _ k
+  | inr k ↦ Member_right e (rows_edges s.rows) _ (elim (Member_of_append e (content_edges s.held) (content_edges s.made) k) [
+    | inl n ↦ Member_left e (content_edges s.held) _ n
+    | inr n ↦ Member_right e (content_edges s.held) _ (Member_left e (content_edges s.made) _ n)
   ])
+])
 
 -- where an edge comes from
 pub data Begins (s : State) (e : Edge) : Type 0 where
@@ -74,18 +74,18 @@ begins s e m =
     elim (Member_of_append e (slot_edges s.slots) _ m) [
       | inl k ↦ at_slot (slot_begins s.slots e k) k
       | inr k ↦ elim (Member_of_append e (rows_edges s.rows) _ k) [
-          | inl n ↦ let x = edge_row s.rows e n in at_row x.row x.mem x.from n
-          | inr n ↦ elim (Member_of_append e (content_edges s.held) _ n) [
-              | inl q ↦ let c = content_begins s.held e q in at_content c.0 c.1 (Member_left e (content_edges s.held) _ q)
-              | inr q ↦ elim (Member_of_append e (content_edges s.made) _ q) [
-                  | inl z ↦ let c = content_begins s.made e z in at_content c.0 c.1 (Member_right e (content_edges s.held) _ z)
-                  | inr z ↦ elim (Member_of_append e (rows_edges s.given) (rows_edges s.own) z) [
-                      | inl y ↦ let x = edge_row s.given e y in at_frozen x.row (or_left _ _ (mem_has x.row s.given x.mem)) x.from
-                      | inr y ↦ let x = edge_row s.own e y in at_frozen x.row (ap (λ b. has_row s.given (x.row).name || b) (mem_has x.row s.own x.mem) ∙ or_true _) x.from
-                    ]
-                ]
+        | inl n ↦ let x = edge_row s.rows e n in at_row x.row x.mem x.from n
+        | inr n ↦ elim (Member_of_append e (content_edges s.held) _ n) [
+          | inl q ↦ let c = content_begins s.held e q in at_content c.0 c.1 (Member_left e (content_edges s.held) _ q)
+          | inr q ↦ elim (Member_of_append e (content_edges s.made) _ q) [
+            | inl z ↦ let c = content_begins s.made e z in at_content c.0 c.1 (Member_right e (content_edges s.held) _ z)
+            | inr z ↦ elim (Member_of_append e (rows_edges s.given) (rows_edges s.own) z) [
+              | inl y ↦ let x = edge_row s.given e y in at_frozen x.row (or_left _ _ (mem_has x.row s.given x.mem)) x.from
+              | inr y ↦ let x = edge_row s.own e y in at_frozen x.row (ap (λ b. has_row s.given (x.row).name || b) (mem_has x.row s.own x.mem) ∙ or_true _) x.from
             ]
+          ]
         ]
+      ]
     ]
 
 module _ (s : State) (g : Setting s) where
@@ -102,19 +102,19 @@ module _ (s : State) (g : Setting s) where
   -- the other way
   pub into_zero : (r : ObjId) → points_into s.rows s r ≡ false → borrowed s r ≡ 0
   into_zero r h = none_count (borrows s.rows r) (edges s) (λ e m. elim (begins s e m) [
-      | at_slot f k ↦ none_any (borrows s.rows r) (slot_edges s.slots ++ rows_edges s.rows) h e (Member_left e (slot_edges s.slots) _ k)
-      | at_row x n f k ↦ none_any (borrows s.rows r) (slot_edges s.slots ++ rows_edges s.rows) h e (Member_right e (slot_edges s.slots) _ k)
-      | at_content c f k ↦ ap (λ z. is_borrower s.rows z && is_in r (owner_in s.rows e.to)) f
-      | at_frozen x k f ↦ ap (λ z. is_borrower s.rows z && is_in r (owner_in s.rows e.to)) f ∙ ap (λ w. is_local_at w && is_in r (owner_in s.rows e.to)) (g.apart x.name k)
-    ])
+    | at_slot f k ↦ none_any (borrows s.rows r) (slot_edges s.slots ++ rows_edges s.rows) h e (Member_left e (slot_edges s.slots) _ k)
+    | at_row x n f k ↦ none_any (borrows s.rows r) (slot_edges s.slots ++ rows_edges s.rows) h e (Member_right e (slot_edges s.slots) _ k)
+    | at_content c f k ↦ ap (λ z. is_borrower s.rows z && is_in r (owner_in s.rows e.to)) f
+    | at_frozen x k f ↦ ap (λ z. is_borrower s.rows z && is_in r (owner_in s.rows e.to)) f ∙ ap (λ w. is_local_at w && is_in r (owner_in s.rows e.to)) (g.apart x.name k)
+  ])
 
   pub owned_zero : (r : ObjId) → is_owned_by s.rows s r ≡ false → owning_edges s r ≡ 0
   owned_zero r h = none_count (λ (d : Edge). is_owning s.rows d.from r && same_name d.to r) (edges s) (λ e m. elim (begins s e m) [
-      | at_slot f k ↦ ap (λ z. is_owning s.rows z r && same_name e.to r) f
-      | at_row x n f k ↦ none_any (λ (d : Edge). is_owning s.rows d.from r && same_name d.to r) (rows_edges s.rows ++ (content_edges s.held ++ content_edges s.made)) h e (Member_left e (rows_edges s.rows) _ k)
-      | at_content c f k ↦ none_any (λ (d : Edge). is_owning s.rows d.from r && same_name d.to r) (rows_edges s.rows ++ (content_edges s.held ++ content_edges s.made)) h e (Member_right e (rows_edges s.rows) _ k)
-      | at_frozen x k f ↦ ap (λ z. is_owning s.rows z r && same_name e.to r) f ∙ ap (λ w. is_in_other r w && same_name e.to r) (g.apart x.name k)
-    ])
+    | at_slot f k ↦ ap (λ z. is_owning s.rows z r && same_name e.to r) f
+    | at_row x n f k ↦ none_any (λ (d : Edge). is_owning s.rows d.from r && same_name d.to r) (rows_edges s.rows ++ (content_edges s.held ++ content_edges s.made)) h e (Member_left e (rows_edges s.rows) _ k)
+    | at_content c f k ↦ none_any (λ (d : Edge). is_owning s.rows d.from r && same_name d.to r) (rows_edges s.rows ++ (content_edges s.held ++ content_edges s.made)) h e (Member_right e (rows_edges s.rows) _ k)
+    | at_frozen x k f ↦ ap (λ z. is_owning s.rows z r && same_name e.to r) f ∙ ap (λ w. is_in_other r w && same_name e.to r) (g.apart x.name k)
+  ])
 
   -- a row that no content and no frozen row may lead to
   abbrev pub Inside : ObjId → Owner → Type 0
@@ -140,13 +140,13 @@ module _ (s : State) (g : Setting s) where
 
   pub points_zero : (o : ObjId) (w : Owner) → owner_in s.rows o ≡ Some w → Inside o w → points s.rows s o ≡ false → refs s o ≡ 0
   points_zero o w h i n = none_count (λ (d : Edge). same_name d.to o) (edges s) (λ e m. elim (begins s e m) [
-      | at_slot f k ↦ none_any (λ (d : Edge). same_name d.to o) (slot_edges s.slots ++ rows_edges s.rows) n e (Member_left e (slot_edges s.slots) _ k)
-      | at_row x y f k ↦ none_any (λ (d : Edge). same_name d.to o) (slot_edges s.slots ++ rows_edges s.rows) n e (Member_right e (slot_edges s.slots) _ k)
-      | at_content c f k ↦ false_by _ (λ t. no_content o w i (ap (λ z. from_content o (or_frozen (has_row s.given o || has_row s.own o) z)) (sym h) ∙ lead_of e m o (same_name_is e.to o t) (Content c) f))
-      | at_frozen x k f ↦ false_by _ (λ t. no_frozen o w i
-          ((λ j. from_row (sym (or_frozen_is (has_row s.given x.name || has_row s.own x.name) k (owner_in s.rows x.name) (g.apart x.name k)) j) o (or_frozen (has_row s.given o || has_row s.own o) (sym h j)))
-            ∙ lead_of e m o (same_name_is e.to o t) (Field x.name) f))
-    ])
+    | at_slot f k ↦ none_any (λ (d : Edge). same_name d.to o) (slot_edges s.slots ++ rows_edges s.rows) n e (Member_left e (slot_edges s.slots) _ k)
+    | at_row x y f k ↦ none_any (λ (d : Edge). same_name d.to o) (slot_edges s.slots ++ rows_edges s.rows) n e (Member_right e (slot_edges s.slots) _ k)
+    | at_content c f k ↦ false_by _ (λ t. no_content o w i (ap (λ z. from_content o (or_frozen (has_row s.given o || has_row s.own o) z)) (sym h) ∙ lead_of e m o (same_name_is e.to o t) (Content c) f))
+    | at_frozen x k f ↦ false_by _ (λ t. no_frozen o w i
+        ((λ j. from_row (sym (or_frozen_is (has_row s.given x.name || has_row s.own x.name) k (owner_in s.rows x.name) (g.apart x.name k)) j) o (or_frozen (has_row s.given o || has_row s.own o) (sym h j)))
+        ∙ lead_of e m o (same_name_is e.to o t) (Field x.name) f))
+  ])
 
   -- ---- what may go
   no_edge : (o : ObjId) → refs s o ≡ 0 → (gone : ObjId → Bool) → (e : Edge) → Member e (edges (without s gone)) → same_name o e.to ≡ false
@@ -157,21 +157,21 @@ module _ (s : State) (g : Setting s) where
 
   pub local_goes : (o : ObjId) → owner_in s.rows o ≡ Some Local → refs s o ≡ 0 → CanGo s (same_name o)
   local_goes o h z = record {
-      must = λ p e. subst (MustGo s) (same_name_is o p e) (bare_goes s g o Local h (zero_points o z));
-      clear = no_edge o z (same_name o);
-      whole = λ p r k e. absurd (local_not_in o r h (ap (owner_in s.rows) (same_name_is o r e) ∙ g.bridge p r k));
-      apart = λ p r k e n b. local_not_in o r h (ap (owner_in s.rows) (same_name_is o p e) ∙ k)
-    }
+    must = λ p e. subst (MustGo s) (same_name_is o p e) (bare_goes s g o Local h (zero_points o z));
+    clear = no_edge o z (same_name o);
+    whole = λ p r k e. absurd (local_not_in o r h (ap (owner_in s.rows) (same_name_is o r e) ∙ g.bridge p r k));
+    apart = λ p r k e n b. local_not_in o r h (ap (owner_in s.rows) (same_name_is o p e) ∙ k);
+  }
 
   pub inner_goes : (o r : ObjId) → owner_in s.rows o ≡ Some (In r) → same_name r o ≡ false → (Bare s r → ⊥) → refs s o ≡ 0 → CanGo s (same_name o)
   inner_goes o r h d alive z = record {
-      must = λ p e. subst (MustGo s) (same_name_is o p e) (bare_goes s g o (In r) h (bare_inner s g o r d (zero_points o z)));
-      clear = no_edge o z (same_name o);
-      whole = λ p q k e. let f : o ≡ q = same_name_is o q e in
-          let t : owner_in s.rows o ≡ Some (In o) = subst (λ n. owner_in s.rows n ≡ Some (In n)) (sym f) (g.bridge p q k) in
-          absurd (no_both _ (ap (λ n. same_name n o) (in_is r o (owner_is s.rows o (In r) (In o) h t)) ∙ same_name_itself o) d);
-      apart = λ p q k e n b. alive (subst (Bare s) (in_is q r (owner_is s.rows p (In q) (In r) k (ap (owner_in s.rows) (sym (same_name_is o p e)) ∙ h))) b)
-    }
+    must = λ p e. subst (MustGo s) (same_name_is o p e) (bare_goes s g o (In r) h (bare_inner s g o r d (zero_points o z)));
+    clear = no_edge o z (same_name o);
+    whole = λ p q k e. let f : o ≡ q = same_name_is o q e in
+        let t : owner_in s.rows o ≡ Some (In o) = subst (λ n. owner_in s.rows n ≡ Some (In n)) (sym f) (g.bridge p q k) in
+        absurd (no_both _ (ap (λ n. same_name n o) (in_is r o (owner_is s.rows o (In r) (In o) h t)) ∙ same_name_itself o) d);
+    apart = λ p q k e n b. alive (subst (Bare s) (in_is q r (owner_is s.rows p (In q) (In r) k (ap (owner_in s.rows) (sym (same_name_is o p e)) ∙ h))) b);
+  }
 
   abbrev pub of_region : ObjId → ObjId → Bool
   of_region r o = is_in r (owner_in s.rows o)
@@ -211,18 +211,18 @@ module _ (s : State) (g : Setting s) where
             (not_content e.to r (ap (λ w. from_content e.to (or_frozen (has_row s.given e.to || has_row s.own e.to) w)) (sym own) ∙ lead_of e old e.to refl (Content c) f))
         | at_frozen x k f ↦
             let v : from_frozen (Some (In r)) ≡ true = (λ j. from_row (sym (or_frozen_is (has_row s.given x.name || has_row s.own x.name) k (owner_in s.rows x.name) (g.apart x.name k)) j) e.to (or_frozen (has_row s.given e.to || has_row s.own e.to) (sym own j)))
-                  ∙ lead_of e old e.to refl (Field x.name) f in cc
+            ∙ lead_of e old e.to refl (Field x.name) f in cc
       ]
 
   pub region_goes : (r : ObjId) → owner_in s.rows r ≡ Some (In r) → borrowed s r ≡ 0 → owning_edges s r ≡ 0 → CanGo s (of_region r)
   region_goes r h b z = record {
-      must = λ o e. let k : owner_in s.rows o ≡ Some (In r) = in_region r (owner_in s.rows o) e in
-          record { here = owner_has s.rows o (In r) k; goes = false_by _ (region_must r h (bare_of r b z) o k) };
-      clear = λ e m. false_by _ (region_clear r h b z e m);
-      whole = λ o q k e.
-          let f : q ≡ r = in_is q r (owner_is s.rows q (In q) (In r) (g.bridge o q k) (in_region r (owner_in s.rows q) e)) in
-          ap (is_in r) (k ∙ ap (λ n. Some (In n)) f) ∙ same_name_itself r;
-      apart = λ o q k e n w.
-          let f : q ≡ r = in_is q r (owner_is s.rows o (In q) (In r) k (in_region r (owner_in s.rows o) e)) in
-          no_both _ (ap (λ n. is_in r (owner_in s.rows n)) f ∙ ap (is_in r) h ∙ same_name_itself r) n
-    }
+    must = λ o e. let k : owner_in s.rows o ≡ Some (In r) = in_region r (owner_in s.rows o) e in
+        record { here = owner_has s.rows o (In r) k; goes = false_by _ (region_must r h (bare_of r b z) o k) };
+    clear = λ e m. false_by _ (region_clear r h b z e m);
+    whole = λ o q k e.
+        let f : q ≡ r = in_is q r (owner_is s.rows q (In q) (In r) (g.bridge o q k) (in_region r (owner_in s.rows q) e)) in
+        ap (is_in r) (k ∙ ap (λ n. Some (In n)) f) ∙ same_name_itself r;
+    apart = λ o q k e n w.
+        let f : q ≡ r = in_is q r (owner_is s.rows o (In q) (In r) k (in_region r (owner_in s.rows o) e)) in
+        no_both _ (ap (λ n. is_in r (owner_in s.rows n)) f ∙ ap (is_in r) h ∙ same_name_itself r) n;
+  }

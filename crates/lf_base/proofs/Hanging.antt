@@ -14,7 +14,6 @@ use Rattle.lf_base.specs.Sets.{Member, grow, least}
 use Rattle.lf_base.specs.Settling.{AllHang, Bare, Hangs, LeadsTo, MustGo, Object, Region, Suspect, by_region, by_row, by_row_into, itself}
 use Rattle.lf_base.specs.WalkCounts.{is_borrower}
 use Rattle.lf_base.specs.WellFormed.{from_row}
-use Rattle.lf_base.proofs.Choice.{goes}
 use Rattle.lf_base.proofs.Dropped.{and_join, and_parts, in_region, mem_has, not_false, row_of, some_is}
 use Rattle.lf_base.proofs.Least.{Grows, least_closed}
 use Rattle.lf_base.proofs.Lookup.{EdgeRow, edge_in, edge_row, joined_has, kept_stays, named, no_both, owner_has, owner_mem, row_edge, to_local, to_region}
@@ -130,15 +129,18 @@ module _ (s : State) (g : Setting s) (w : List Suspect) where
   hung_step : (xs : List Row) → ((y : Row) → Member y xs → Hung y) → (x : Row) → Member x s.rows → joins xs x ≡ true → Hung x
   hung_step xs h x m e =
       let p = and_parts (not (kept_has_name x.name)) _ e in
-      record { mem = m; must = must_row x m p.0;
+      record {
+        mem = m;
+        must = must_row x m p.0;
         hangs = elim (or_split (list_any (λ u. is_object u x.name) w) (list_any (leads_row x.name) xs || owner_hung xs x.owner) p.1) [
           | inl k ↦ let t = any_Member (λ u. is_object u x.name) w k in itself (subst (λ u. Member u w) (object_is t.0 x.name t.1.1) t.1.0)
           | inr k ↦ elim (or_split (list_any (leads_row x.name) xs) (owner_hung xs x.owner) k) [
-              | inl n ↦ let t = any_Member (leads_row x.name) xs n in let z = h t.0 t.1.0 in
-                  by_row (t.0).name (row_leads_to t.0 z.mem x.name (named_target t.0 x.name t.1.1)) z.must z.hangs
-              | inr n ↦ by_owner_hung xs h x.name x.owner (owner_mem s.rows g.distinct x m) n
-            ]
-        ] }
+            | inl n ↦ let t = any_Member (leads_row x.name) xs n in let z = h t.0 t.1.0 in
+                by_row (t.0).name (row_leads_to t.0 z.mem x.name (named_target t.0 x.name t.1.1)) z.must z.hangs
+            | inr n ↦ by_owner_hung xs h x.name x.owner (owner_mem s.rows g.distinct x m) n
+          ]
+        ];
+      }
 
   pub hung_hangs : (x : Row) → Member x hung → Hung x
   hung_hangs = least_all joins s.rows Hung hung_step (length s.rows) [] (λ y m. absurd m)
@@ -181,17 +183,17 @@ module _ (s : State) (g : Setting s) (w : List Suspect) where
         let t = any_Member (λ (d : Edge). same_name d.to x.name) (slot_edges s.slots ++ rows_edges s.rows) e in
         let to : (t.0).to ≡ x.name = same_name_is (t.0).to x.name t.1.1 in
         Member_any (λ (d : Edge). same_name d.to x.name) t.0 (slot_edges s.slots ++ rows_edges rows)
-          (elim (Member_of_append t.0 (slot_edges s.slots) (rows_edges s.rows) t.1.0) [
-            | inl k ↦ Member_left t.0 (slot_edges s.slots) (rows_edges rows) k
-            | inr k ↦ let y = edge_row s.rows t.0 k in
-                Member_right t.0 (slot_edges s.slots) (rows_edges rows) (row_edge rows y.row t.0
-                  (by_either (kept_has_name (y.row).name) (λ z. up y.row (kept_row s g y.row y.mem z))
-                    (λ z. by_either (has_row hung (y.row).name)
-                      (λ q. absurd (not_led x m h y.row (hung_row y.row y.mem q) (subst (λ n. Member n (field_targets (y.row).fields)) to y.to)))
-                      (λ q. f y.row y.mem (z, q) (subst (λ n. from_row (Some ((y.row).owner)) n (Some v) ≡ true) to (source s g t.0 y v (ap (owner_in s.rows) to ∙ own))))))
-                  y.from y.to)
-          ])
-          t.1.1
+        (elim (Member_of_append t.0 (slot_edges s.slots) (rows_edges s.rows) t.1.0) [
+          | inl k ↦ Member_left t.0 (slot_edges s.slots) (rows_edges rows) k
+          | inr k ↦ let y = edge_row s.rows t.0 k in
+              Member_right t.0 (slot_edges s.slots) (rows_edges rows) (row_edge rows y.row t.0
+              (by_either (kept_has_name (y.row).name) (λ z. up y.row (kept_row s g y.row y.mem z))
+              (λ z. by_either (has_row hung (y.row).name)
+              (λ q. absurd (not_led x m h y.row (hung_row y.row y.mem q) (subst (λ n. Member n (field_targets (y.row).fields)) to y.to)))
+              (λ q. f y.row y.mem (z, q) (subst (λ n. from_row (Some ((y.row).owner)) n (Some v) ≡ true) to (source s g t.0 y v (ap (owner_in s.rows) to ∙ own))))))
+              y.from y.to)
+        ])
+        t.1.1
 
     -- local rows
     abbrev near : List Row
@@ -203,10 +205,12 @@ module _ (s : State) (g : Setting s) (w : List Suspect) where
         let p = and_parts (is_local x.owner) _ t.1 in
         let h : Left x = left_is x p.1 in
         let here : x.owner ≡ Local = local_is x.owner p.0 in
-        let own : owner_in s.rows x.name ≡ Some Local = owner_mem s.rows g.distinct x t.0 ∙ ap Some here in
-        (t.0, ap (stays_by_owner s (kept_rows s ++ near) x.name) here
-          ∙ points_left (kept_rows s ++ near) x t.0 h (λ z k. Member_left z (kept_rows s) near k) Local own (true_by _ (λ n. not_suspect x t.0 h (l.locals x.name own n)))
-            (λ y k i f. Member_right y (kept_rows s) near (Member_filter (λ (z : Row). is_local z.owner && left z) y s.rows k (and_join _ _ (ap is_local (to_local y.owner x.name f)) (is_left y i))))))
+        let own : owner_in s.rows x.name ≡ Some Local = owner_mem s.rows g.distinct x t.0 ∙ ap Some here in (
+          t.0,
+          ap (stays_by_owner s (kept_rows s ++ near) x.name) here
+              ∙ points_left (kept_rows s ++ near) x t.0 h (λ z k. Member_left z (kept_rows s) near k) Local own (true_by _ (λ n. not_suspect x t.0 h (l.locals x.name own n)))
+              (λ y k i f. Member_right y (kept_rows s) near (Member_filter (λ (z : Row). is_local z.owner && left z) y s.rows k (and_join _ _ (ap is_local (to_local y.owner x.name f)) (is_left y i)))),
+        ))
 
     no_local : (x : Row) → Member x s.rows → x.owner ≡ Local → Left x → ⊥
     no_local x m e h = no_both _ (mem_has x (kept_rows s) (near_stays x (Member_filter (λ (z : Row). is_local z.owner && left z) x s.rows m (and_join _ _ (ap is_local e) (is_left x h))))) h.0
@@ -224,16 +228,18 @@ module _ (s : State) (g : Setting s) (w : List Suspect) where
           let here : x.owner ≡ In r = some_is x.owner (In r) (in_region r (Some (x.owner)) p.0) in
           let own : owner_in s.rows x.name ≡ Some (In r) = owner_mem s.rows g.distinct x t.0 ∙ ap Some here in
           let d : same_name r x.name ≡ false = false_by _ (λ k. no_both _ there (ap (has_row (kept_rows s)) (same_name_is r x.name k) ∙ h.0)) in
-          let all : List Row = kept_rows s ++ part in
-          (t.0, ap (stays_by_owner s all x.name) here
-            ∙ ap (λ c. cond c (is_owned_by all s r || points_into all s r) (has_row all r && points all s x.name)) d
-            ∙ and_join _ _ (any_more (λ (z : Row). same_name z.name r) (kept_rows s) all (λ z k. Member_left z (kept_rows s) part k) there)
-              (points_left all x t.0 h (λ z k. Member_left z (kept_rows s) part k) (In r) own (true_by _ (λ n. not_suspect x t.0 h (l.inners x.name r own d there n)))
+          let all : List Row = kept_rows s ++ part in (
+            t.0,
+            ap (stays_by_owner s all x.name) here
+                ∙ ap (λ c. cond c (is_owned_by all s r || points_into all s r) (has_row all r && points all s x.name)) d
+                ∙ and_join _ _ (any_more (λ (z : Row). same_name z.name r) (kept_rows s) all (λ z k. Member_left z (kept_rows s) part k) there)
+                (points_left all x t.0 h (λ z k. Member_left z (kept_rows s) part k) (In r) own (true_by _ (λ n. not_suspect x t.0 h (l.inners x.name r own d there n)))
                 (λ y k i f. elim (to_region y.owner x.name r f) [
                   | inl q ↦ absurd (no_local y k q i)
                   | inr (inl q) ↦ Member_right y (kept_rows s) part (Member_filter (λ (z : Row). is_in r (Some (z.owner)) && left z) y s.rows k (and_join _ _ (ap (λ z. is_in r (Some z)) q ∙ same_name_itself r) (is_left y i)))
                   | inr (inr q) ↦ absurd (no_both _ (ap (same_name r) (sym q.1.1.1) ∙ same_name_itself r) d)
-                ]))))
+                ])),
+          ))
 
       no_inner : (x : Row) → Member x s.rows → x.owner ≡ In r → Left x → ⊥
       no_inner x m e h = no_both _ (mem_has x (kept_rows s) (part_stays x (Member_filter (λ (z : Row). is_in r (Some (z.owner)) && left z) x s.rows m (and_join _ _ (ap (λ z. is_in r (Some z)) e ∙ same_name_itself r) (is_left x h))))) h.0
@@ -245,11 +251,13 @@ module _ (s : State) (g : Setting s) (w : List Suspect) where
         let one : List Row = b.row ∷ [] in
         let up : stays_by_owner s (kept_rows s) r (In r) ≡ true = ap (λ c. cond c (is_owned_by (kept_rows s) s r || points_into (kept_rows s) s r) (has_row (kept_rows s) r && points (kept_rows s) s r)) (same_name_itself r) ∙ e in
         let m : Member (b.row) (kept_rows s) = joined_has s one (λ x k. elim k [
-            | inl q ↦ (subst (λ y. Member y s.rows) q b.mem,
-                subst (λ (y : Row). stays_by_owner s (kept_rows s ++ one) y.name y.owner ≡ true) q
-                  (ap₂ (stays_by_owner s (kept_rows s ++ one)) b.name b.owner ∙ by_owner s (kept_rows s) (kept_rows s ++ one) r (In r) (λ z n. Member_left z (kept_rows s) one n) up))
-            | inr q ↦ absurd q
-          ]) b.row (inl refl) in
+          | inl q ↦ (
+            subst (λ y. Member y s.rows) q b.mem,
+            subst (λ (y : Row). stays_by_owner s (kept_rows s ++ one) y.name y.owner ≡ true) q
+                (ap₂ (stays_by_owner s (kept_rows s ++ one)) b.name b.owner ∙ by_owner s (kept_rows s) (kept_rows s ++ one) r (In r) (λ z n. Member_left z (kept_rows s) one n) up),
+          )
+          | inr q ↦ absurd q
+        ]) b.row (inl refl) in
         subst (λ n. has_row (kept_rows s) n ≡ true) b.name (mem_has b.row (kept_rows s) m)
 
     -- a row stays only where its bridge stays
@@ -273,8 +281,8 @@ module _ (s : State) (g : Setting s) (w : List Suspect) where
     tops_mem q h n =
         let t = row_of s.rows q (In q) h in
         Member_filter region_left q (bridges s)
-          (Member_filter (is_bridge s.rows) q (map (λ r. r.name) s.rows) (subst (λ k. Member k (map (λ r. r.name) s.rows)) t.name (Member_map (λ (r : Row). r.name) t.row s.rows t.mem)) (ap (is_in q) h ∙ same_name_itself q))
-          n
+        (Member_filter (is_bridge s.rows) q (map (λ r. r.name) s.rows) (subst (λ k. Member k (map (λ r. r.name) s.rows)) t.name (Member_map (λ (r : Row). r.name) t.row s.rows t.mem)) (ap (is_in q) h ∙ same_name_itself q))
+        n
 
     module _ (r : ObjId) (h : owner_in s.rows r ≡ Some (In r)) (n : kept_has_name r ≡ false) (z : region_hung hung r ≡ false) where
       not_entered : (y : Row) → Member y hung → enters r y ≡ true → ⊥
@@ -294,26 +302,28 @@ module _ (s : State) (g : Setting s) (w : List Suspect) where
       owner_left e x p q own d true b k y =
           let at : (x.row).owner ≡ In q = some_is ((x.row).owner) (In q) (sym (owner_mem s.rows g.distinct x.row x.mem) ∙ own) in
           by_either (has_row (kept_rows s) (x.row).name) (λ i. absurd (held_by_row e x p i))
-            (λ i. by_either (has_row hung (x.row).name)
-              (λ j. absurd (not_entered x.row (hung_row x.row x.mem j) (enters_by r x.row e.to x.to (subst (λ m. owner_in s.rows m ≡ Some (In r)) (sym (same_name_is e.to r (and_parts (is_owning s.rows e.from r) _ p).1)) h))))
-              (λ j. absurd (no_inner q k x.row x.mem at (i, j))))
+          (λ i. by_either (has_row hung (x.row).name)
+          (λ j. absurd (not_entered x.row (hung_row x.row x.mem j) (enters_by r x.row e.to x.to (subst (λ m. owner_in s.rows m ≡ Some (In r)) (sym (same_name_is e.to r (and_parts (is_owning s.rows e.from r) _ p).1)) h))))
+          (λ j. absurd (no_inner q k x.row x.mem at (i, j))))
       owner_left e x p q own d false true k y =
           let at : (x.row).owner ≡ In q = some_is ((x.row).owner) (In q) (sym (owner_mem s.rows g.distinct x.row x.mem) ∙ own) in
           let gone : kept_has_name (x.row).name ≡ false = inner_top x.row x.mem q own k in
           let m : Member x.row hung = hung_join x.row x.mem (and_join _ _ (not_false _ gone) (ap (λ b. list_any (λ u. is_object u (x.row).name) w || b) (ap (λ b. list_any (leads_row (x.row).name) hung || b) (ap (owner_hung hung) at ∙ y) ∙ or_true _) ∙ or_true _)) in
           absurd (not_entered x.row m (enters_by r x.row e.to x.to (subst (λ m. owner_in s.rows m ≡ Some (In r)) (sym (same_name_is e.to r (and_parts (is_owning s.rows e.from r) _ p).1)) h)))
       owner_left e x p q own d false false k y =
-          let t = and_parts (is_owning s.rows e.from r) (same_name e.to r) p in
-          (and_join _ _ (ap not d) (and_join _ _ (ap (is_in r) h ∙ same_name_itself r)
-            (Member_any (λ (e : Edge). is_from s.rows q e.from && same_name e.to r) e (edges s) (edge_in s e (row_edge s.rows x.row e x.mem x.from x.to))
-              (and_join _ _ (ap (is_from s.rows q) x.from ∙ ap (is_in q) own ∙ same_name_itself q) t.1))),
-           and_join _ _ (not_false _ k) (not_false _ y))
+          let t = and_parts (is_owning s.rows e.from r) (same_name e.to r) p in (
+            and_join _ _ (ap not d) (and_join _ _ (ap (is_in r) h ∙ same_name_itself r)
+                (Member_any (λ (e : Edge). is_from s.rows q e.from && same_name e.to r) e (edges s) (edge_in s e (row_edge s.rows x.row e x.mem x.from x.to))
+                (and_join _ _ (ap (is_from s.rows q) x.from ∙ ap (is_in q) own ∙ same_name_itself q) t.1))),
+            and_join _ _ (not_false _ k) (not_false _ y),
+          )
 
       owned_top : list_any (λ q. owns s q r) tops ≡ true
       owned_top =
           let why : (is_owned_by s.rows s r || points_into s.rows s r) ≡ true = true_by _ (λ e. not_bare (record {
-              unowned = elim (is_owned_by s.rows s r) as (λ b. (b || points_into s.rows s r) ≡ false → b ≡ false) [ true ↦ λ k. cc | false ↦ λ k. refl ] e;
-              unborrowed = elim (is_owned_by s.rows s r) as (λ b. (b || points_into s.rows s r) ≡ false → points_into s.rows s r ≡ false) [ true ↦ λ k. cc | false ↦ λ k. k ] e })) in
+            unowned = elim (is_owned_by s.rows s r) as (λ b. (b || points_into s.rows s r) ≡ false → b ≡ false) [ true ↦ λ k. cc | false ↦ λ k. refl ] e;
+            unborrowed = elim (is_owned_by s.rows s r) as (λ b. (b || points_into s.rows s r) ≡ false → points_into s.rows s r ≡ false) [ true ↦ λ k. cc | false ↦ λ k. k ] e;
+          })) in
           elim (or_split (is_owned_by s.rows s r) (points_into s.rows s r) why) [
             | inl owned ↦
                 let t = any_Member (λ (e : Edge). is_owning s.rows e.from r && same_name e.to r) (rows_edges s.rows ++ (content_edges s.held ++ content_edges s.made)) owned in
@@ -335,10 +345,10 @@ module _ (s : State) (g : Setting s) (w : List Suspect) where
                       let x = edge_row s.rows t.0 m in
                       let own = local_at_is (owner_in s.rows (x.row).name) (ap (is_borrower s.rows) (sym x.from) ∙ p.0) in
                       by_either (has_row (kept_rows s) (x.row).name)
-                        (λ i. held (Member_right t.0 (slot_edges s.slots) (rows_edges (kept_rows s)) (row_edge (kept_rows s) x.row t.0 (kept_row s g x.row x.mem i) x.from x.to)))
-                        (λ i. by_either (has_row hung (x.row).name)
-                          (λ j. not_entered x.row (hung_row x.row x.mem j) (enters_by r x.row (t.0).to x.to (in_region r (owner_in s.rows (t.0).to) p.1)))
-                          (λ j. no_local x.row x.mem (some_is ((x.row).owner) Local (sym (owner_mem s.rows g.distinct x.row x.mem) ∙ own)) (i, j)))
+                      (λ i. held (Member_right t.0 (slot_edges s.slots) (rows_edges (kept_rows s)) (row_edge (kept_rows s) x.row t.0 (kept_row s g x.row x.mem i) x.from x.to)))
+                      (λ i. by_either (has_row hung (x.row).name)
+                      (λ j. not_entered x.row (hung_row x.row x.mem j) (enters_by r x.row (t.0).to x.to (in_region r (owner_in s.rows (t.0).to) p.1)))
+                      (λ j. no_local x.row x.mem (some_is ((x.row).owner) Local (sym (owner_mem s.rows g.distinct x.row x.mem) ∙ own)) (i, j)))
                 ])
           ]
 
@@ -346,21 +356,21 @@ module _ (s : State) (g : Setting s) (w : List Suspect) where
       no_top : (r : ObjId) → Member r tops → ⊥
       no_top r m = subst (λ l. Member r l) still
           (greatest_has (λ qs r. list_any (λ q. owns s q r) qs) (λ xs ys x v e. any_more (λ q. owns s q x) xs ys v e) (bridges s) tops
-            (λ q k. let t = Member_of_filter region_left q (bridges s) k in
-                    let u = Member_of_filter (is_bridge s.rows) q (map (λ r. r.name) s.rows) t.0 in
-                    let p = and_parts (not (kept_has_name q)) _ t.1 in
-                    owned_top q (in_region q (owner_in s.rows q) u.1) (not_true _ p.0) (not_true _ p.1))
-            (λ q k. (Member_of_filter region_left q (bridges s) k).0)
-            r m)
+          (λ q k. let t = Member_of_filter region_left q (bridges s) k in
+          let u = Member_of_filter (is_bridge s.rows) q (map (λ r. r.name) s.rows) t.0 in
+          let p = and_parts (not (kept_has_name q)) _ t.1 in
+          owned_top q (in_region q (owner_in s.rows q) u.1) (not_true _ p.0) (not_true _ p.1))
+          (λ q k. (Member_of_filter region_left q (bridges s) k).0)
+          r m)
 
       no_left : (x : Row) → Member x s.rows → (v : Owner) → x.owner ≡ v → Left x → ⊥
       no_left x m Local e h = no_local x m e h
       no_left x m (In r) e h =
           let own : owner_in s.rows x.name ≡ Some (In r) = owner_mem s.rows g.distinct x m ∙ ap Some e in
           by_either (kept_has_name r) (λ k. no_inner r k x m e h)
-            (λ k. by_either (region_hung hung r)
-              (λ y. not_hung x m h (ap (λ b. list_any (λ u. is_object u x.name) w || b) (ap (λ b. list_any (leads_row x.name) hung || b) (ap (owner_hung hung) e ∙ y) ∙ or_true _) ∙ or_true _))
-              (λ y. no_top r (tops_mem r (g.bridge x.name r own) (and_join _ _ (not_false _ k) (not_false _ y)))))
+          (λ k. by_either (region_hung hung r)
+          (λ y. not_hung x m h (ap (λ b. list_any (λ u. is_object u x.name) w || b) (ap (λ b. list_any (leads_row x.name) hung || b) (ap (owner_hung hung) e ∙ y) ∙ or_true _) ∙ or_true _))
+          (λ y. no_top r (tops_mem r (g.bridge x.name r own) (and_join _ _ (not_false _ k) (not_false _ y)))))
       no_left x m Frozen e h =
           no_both _ (mem_has x (kept_rows s) (joined_has s (x ∷ []) (λ y k. elim k [
             | inl q ↦ (subst (λ z. Member z s.rows) q m, subst (λ (z : Row). stays_by_owner s (kept_rows s ++ (x ∷ [])) z.name z.owner ≡ true) q (ap (stays_by_owner s (kept_rows s ++ (x ∷ [])) x.name) e))
@@ -372,5 +382,5 @@ module _ (s : State) (g : Setting s) (w : List Suspect) where
       listed_hang o must =
           let t = named s.rows o must.here in
           by_either (has_row hung o)
-            (λ e. let x = named hung o e in subst (Hangs s w) x.1.1 (hung_hangs x.0 x.1.0).hangs)
-            (λ e. absurd (no_left t.0 t.1.0 (t.0).owner refl (ap (has_row (kept_rows s)) t.1.1 ∙ must.goes, ap (has_row hung) t.1.1 ∙ e)))
+          (λ e. let x = named hung o e in subst (Hangs s w) x.1.1 (hung_hangs x.0 x.1.0).hangs)
+          (λ e. absurd (no_left t.0 t.1.0 (t.0).owner refl (ap (has_row (kept_rows s)) t.1.1 ∙ must.goes, ap (has_row hung) t.1.1 ∙ e)))

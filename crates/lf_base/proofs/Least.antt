@@ -21,9 +21,9 @@ filter_same p q h (x ∷ xs) e =
           let r : filter q (x ∷ xs) ≡ x ∷ filter q xs = ap (λ c. cond c (x ∷ filter q xs) (filter q xs)) (h x t) in
           ap (λ l. x ∷ l) (filter_same p q h xs (omega (arith, k, ap length r))) ∙ sym r
       | false ↦ λ t k. elim (q x) as (λ c. length (filter p xs) ≡ length (cond c (x ∷ filter q xs) (filter q xs)) → filter p xs ≡ cond c (x ∷ filter q xs) (filter q xs)) [
-          | true ↦ λ m. absurd (omega (arith, m, filter_le p q h xs))
-          | false ↦ λ m. filter_same p q h xs m
-        ] k
+        | true ↦ λ m. absurd (omega (arith, m, filter_le p q h xs))
+        | false ↦ λ m. filter_same p q h xs m
+      ] k
     ] refl e
 
 same_or_more : (a b : ℕ) → a ≤ b → (a ≡ b) ⊎ (a < b)
@@ -68,9 +68,9 @@ module _ {X : Type 0} (joins : List X → X → Bool) (all : List X) where
 
   grow_some : Grows → (n : ℕ) → length all ≤ suc n → next (grow joins all n (next [])) ≡ grow joins all n (next [])
   grow_some g n h = elim (empty_or_more (next [])) [
-      | inl e ↦ subst (λ l. next l ≡ l) (sym (ap (grow joins all n) e ∙ stable n [] e)) e
-      | inr m ↦ grow_closed g n [] (next []) refl (λ x k. absurd k) (omega (arith, m))
-    ]
+    | inl e ↦ subst (λ l. next l ≡ l) (sym (ap (grow joins all n) e ∙ stable n [] e)) e
+    | inr m ↦ grow_closed g n [] (next []) refl (λ x k. absurd k) (omega (arith, m))
+  ]
 
   closed_from : Grows → (n : ℕ) → length all ≤ n → next (grow joins all n []) ≡ grow joins all n []
   closed_from g zero h = none_filter (joins []) all (omega arith)

@@ -4,6 +4,7 @@ pub mod ContentLaw
 pub mod Counts
 pub mod CownNames
 pub mod Dropped
+pub mod FurtherSlot
 pub mod Goes
 pub mod Hanging
 pub mod Least
@@ -15,6 +16,7 @@ pub mod Names
 pub mod OwnersAfterWrite
 pub mod OwnersGoRound
 pub mod Owning
+pub mod Paths
 pub mod Relabel
 pub mod Sets
 pub mod Setting

@@ -34,9 +34,9 @@ put_targets (f ∷ fs) k v o h =
     elim (same_key f.0 k) as (λ b. Member o (field_targets (cond b ((k, v) ∷ fs) (f ∷ put_field fs k v))) → Member o (field_targets (f ∷ fs)) ⊎ Member o (targets_of_value v)) [
       | true ↦ λ m. elim (Member_of_append o (targets_of_value v) (field_targets fs) m) [ inl n ↦ inr n | inr n ↦ inl (Member_right o (targets_of_value f.1) (field_targets fs) n) ]
       | false ↦ λ m. elim (Member_of_append o (targets_of_value f.1) (field_targets (put_field fs k v)) m) [
-          | inl n ↦ inl (Member_left o (targets_of_value f.1) (field_targets fs) n)
-          | inr n ↦ elim (put_targets fs k v o n) [ inl q ↦ inl (Member_right o (targets_of_value f.1) (field_targets fs) q) | inr q ↦ inr q ]
-        ]
+        | inl n ↦ inl (Member_left o (targets_of_value f.1) (field_targets fs) n)
+        | inr n ↦ elim (put_targets fs k v o n) [ inl q ↦ inl (Member_right o (targets_of_value f.1) (field_targets fs) q) | inr q ↦ inr q ]
+      ]
     ] h
 
 abbrev pub IsNew : ObjId → Value → Edge → Type 0
@@ -70,12 +70,12 @@ edges_write s x k v e h =
     elim (Member_of_append e (slot_edges s.slots) (rows_edges (write_fields s.rows x k v) ++ rest) h) [
       | inl m ↦ inl (Member_left e (slot_edges s.slots) (rows_edges s.rows ++ rest) m)
       | inr m ↦ elim (Member_of_append e (rows_edges (write_fields s.rows x k v)) rest m) [
-          | inl n ↦ elim (rows_write s.rows x k v e n) [
-              | inl q ↦ inl (Member_right e (slot_edges s.slots) (rows_edges s.rows ++ rest) (Member_left e (rows_edges s.rows) rest q))
-              | inr q ↦ inr q
-            ]
-          | inr n ↦ inl (Member_right e (slot_edges s.slots) (rows_edges s.rows ++ rest) (Member_right e (rows_edges s.rows) rest n))
+        | inl n ↦ elim (rows_write s.rows x k v e n) [
+          | inl q ↦ inl (Member_right e (slot_edges s.slots) (rows_edges s.rows ++ rest) (Member_left e (rows_edges s.rows) rest q))
+          | inr q ↦ inr q
         ]
+        | inr n ↦ inl (Member_right e (slot_edges s.slots) (rows_edges s.rows ++ rest) (Member_right e (rows_edges s.rows) rest n))
+      ]
     ]
 
 owner_of_write : (s : State) (x : ObjId) (k : Key) (v : Value) (o : ObjId) → owner_of (written s x k v) o ≡ owner_of s o

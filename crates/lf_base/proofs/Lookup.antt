@@ -112,9 +112,9 @@ kept_stays s d o w e h =
 pub joined_has : (s : State) (rows : List Row) → ((x : Row) → Member x rows → Member x s.rows × (stays_by_owner s (kept_rows s ++ rows) x.name x.owner ≡ true)) → Within rows (kept_rows s)
 joined_has s rows h x m =
     kept_has s (kept_rows s ++ rows)
-      (λ y k. elim (Member_of_append y (kept_rows s) rows k) [
-          | inl a ↦ stays_more s (kept_rows s) (kept_rows s ++ rows) y (λ z n. Member_left z (kept_rows s) rows n) (kept_meets s y a)
-          | inr a ↦ (h y a).1
-        ])
-      (λ y k. elim (Member_of_append y (kept_rows s) rows k) [ inl a ↦ kept_in s y a | inr a ↦ (h y a).0 ])
-      x (Member_right x (kept_rows s) rows m)
+    (λ y k. elim (Member_of_append y (kept_rows s) rows k) [
+      | inl a ↦ stays_more s (kept_rows s) (kept_rows s ++ rows) y (λ z n. Member_left z (kept_rows s) rows n) (kept_meets s y a)
+      | inr a ↦ (h y a).1
+    ])
+    (λ y k. elim (Member_of_append y (kept_rows s) rows k) [ inl a ↦ kept_in s y a | inr a ↦ (h y a).0 ])
+    x (Member_right x (kept_rows s) rows m)

@@ -91,10 +91,11 @@ has_names (r ∷ rs) o = ap (λ b. same_name r.name o || b) (has_names rs o)
 
 pub differ_rows : (rows : List Row) (os : List ObjId) → Differ same_name (names rows ++ os) → Distinct rows
 differ_rows [] os d = tt
-differ_rows (r ∷ rs) os d =
-    (false_by _ (λ h. no_both _ (let t = any_Member (λ (q : Row). same_name q.name r.name) rs h in
-        Member_any (λ p. same_name p r.name) (t.0).name (names rs ++ os) (Member_left (t.0).name (names rs) os (Member_map (λ (q : Row). q.name) t.0 rs t.1.0)) t.1.1) d.0),
-     differ_rows rs os d.1)
+differ_rows (r ∷ rs) os d = (
+  false_by _ (λ h. no_both _ (let t = any_Member (λ (q : Row). same_name q.name r.name) rs h in
+      Member_any (λ p. same_name p r.name) (t.0).name (names rs ++ os) (Member_left (t.0).name (names rs) os (Member_map (λ (q : Row). q.name) t.0 rs t.1.0)) t.1.1) d.0),
+  differ_rows rs os d.1,
+)
 
 pub differ_apart : (xs ys : List ObjId) → Differ same_name (xs ++ ys) → (o : ObjId) → has_name xs o ≡ true → has_name ys o ≡ true → ⊥
 differ_apart [] ys d o h k = cc
@@ -134,8 +135,8 @@ module _ (s : State) (v : Value) where
   pub move_step : (x y : Row) → Member x (move_set s v) → Member y s.rows → y.owner ≡ Local → Member y.name (field_targets x.fields) → Member y (move_set s v)
   move_step x y k m l t = joined y m (and_join _ _ (ap is_local l)
       (ap (λ b. has_name (targets_of_value v) y.name || b)
-        (Member_any (λ (m : Row). has_name (field_targets m.fields) y.name) x (move_set s v) k (Member_any (λ p. same_name p y.name) y.name (field_targets x.fields) t (same_name_itself y.name)))
-       ∙ or_true _))
+      (Member_any (λ (m : Row). has_name (field_targets m.fields) y.name) x (move_set s v) k (Member_any (λ p. same_name p y.name) y.name (field_targets x.fields) t (same_name_itself y.name)))
+      ∙ or_true _))
 
   abbrev pub moved_names : List ObjId
   moved_names = names (move_set s v)
@@ -161,4 +162,4 @@ module _ (s : State) (v : Value) where
         let same : t.0 ≡ x.row = same_row s.rows d t.0 x.row (move_local t.0 t.1.0).0 x.mem (t.1.1 ∙ field_is p (x.row).name (sym f ∙ x.from)) in
         let y = row_of s.rows e.to Local k in
         subst (λ n. has_name moved_names n ≡ true) y.name
-          (to_moved y.row (move_step x.row y.row (subst (λ z. Member z (move_set s v)) same t.1.0) y.mem y.owner (subst (λ n. Member n (field_targets (x.row).fields)) (sym y.name) x.to)))
+        (to_moved y.row (move_step x.row y.row (subst (λ z. Member z (move_set s v)) same t.1.0) y.mem y.owner (subst (λ n. Member n (field_targets (x.row).fields)) (sym y.name) x.to)))

@@ -8,7 +8,7 @@ use Rattle.lf_base.specs.Names.{same_name}
 pub Decides-same_name : (a b : ObjId) → Decides (same_name a b) (a ≡ b)
 Decides-same_name a b =
     Decides-like (same_name a b) (λ p. λ i. record { birth = p.0 i; seq = p.1 i }) (λ e. (ap (λ (x : ObjId). x.birth) e, ap (λ (x : ObjId). x.seq) e))
-      (Decides-and (eqb a.birth b.birth) (eqb a.seq b.seq) (Decides-eqb a.birth b.birth) (Decides-eqb a.seq b.seq))
+    (Decides-and (eqb a.birth b.birth) (eqb a.seq b.seq) (Decides-eqb a.birth b.birth) (Decides-eqb a.seq b.seq))
 
 pub same_name_itself : (a : ObjId) → same_name a a ≡ true
 same_name_itself a = (Decides-same_name a a).1 refl

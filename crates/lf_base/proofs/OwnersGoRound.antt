@@ -22,9 +22,9 @@ shorter o (p ∷ os) m =
     elim (same_name p o) as (λ b. same_name p o ≡ b → length (cond (not b) (p ∷ filter (λ q. not (same_name q o)) os) (filter (λ q. not (same_name q o)) os)) < length (p ∷ os)) [
       | true ↦ λ e. omega (arith, length_filter_le (λ q. not (same_name q o)) os)
       | false ↦ λ e. elim m [
-          | inl h ↦ absurd (no_both _ (ap (λ n. same_name n o) h ∙ same_name_itself o) e)
-          | inr k ↦ omega (arith, shorter o os k)
-        ]
+        | inl h ↦ absurd (no_both _ (ap (λ n. same_name n o) h ∙ same_name_itself o) e)
+        | inr k ↦ omega (arith, shorter o os k)
+      ]
     ] refl
 
 module _ (s : State) where
@@ -34,7 +34,7 @@ module _ (s : State) where
   owned_more : (xs ys : List ObjId) (x : ObjId) → Within xs ys → owned_in xs x ≡ true → owned_in ys x ≡ true
   owned_more xs ys x w e = any_more (λ q. owns s q x) xs ys w e
 
-  bridge_listed : (q r : ObjId) → owns s q r ≡ true → Member r (bridges s)
+  pub bridge_listed : (q r : ObjId) → owns s q r ≡ true → Member r (bridges s)
   bridge_listed q r e =
       let b : is_bridge s.rows r ≡ true = (and_parts (is_bridge s.rows r) _ (and_parts (not (same_name q r)) _ e).1).0 in
       let y = row_of s.rows r (In r) (in_region r (owner_in s.rows r) b) in
@@ -68,21 +68,21 @@ module _ (s : State) where
   pub none_above : round s ≡ [] → NoRound s
   none_above e r a = subst (λ l. Member r l) e
       (greatest_has owned_in owned_more (bridges s) (way a)
-        (λ z m. owned_more (r ∷ way a) (way a) z (back a (last a)) (way_owned a z m))
-        (way_bridges a) r (last a))
+      (λ z m. owned_more (r ∷ way a) (way a) z (back a (last a)) (way_owned a z m))
+      (way_bridges a) r (last a))
 
   abbrev Seen : List ObjId → List ObjId → ObjId → Type 0
   Seen all rest here = (z : ObjId) → Member z all → Member z rest ⊎ ((z ≡ here) ⊎ Above s here z)
 
   seen_on : (all rest : List ObjId) (here q : ObjId) → owns s q here ≡ true → Seen all rest here → Seen all (filter (λ p. not (same_name p q)) rest) q
   seen_on all rest here q e seen z m = elim (seen z m) [
-      | inr (inl h) ↦ inr (inr (direct (ap (owns s q) h ∙ e)))
-      | inr (inr a) ↦ inr (inr (step e a))
-      | inl k ↦ elim (same_name z q) as (λ b. same_name z q ≡ b → Member z (filter (λ p. not (same_name p q)) rest) ⊎ ((z ≡ q) ⊎ Above s q z)) [
-          | true ↦ λ h. inr (inl (same_name_is z q h))
-          | false ↦ λ h. inl (Member_filter (λ p. not (same_name p q)) z rest k (not_false _ h))
-        ] refl
-    ]
+    | inr (inl h) ↦ inr (inr (direct (ap (owns s q) h ∙ e)))
+    | inr (inr a) ↦ inr (inr (step e a))
+    | inl k ↦ elim (same_name z q) as (λ b. same_name z q ≡ b → Member z (filter (λ p. not (same_name p q)) rest) ⊎ ((z ≡ q) ⊎ Above s q z)) [
+      | true ↦ λ h. inr (inl (same_name_is z q h))
+      | false ↦ λ h. inl (Member_filter (λ p. not (same_name p q)) z rest k (not_false _ h))
+    ] refl
+  ]
 
   -- climbing from owner to owner among the members of a set that owns its members comes back
   climb : (n : ℕ) (all rest : List ObjId) → NoRound s → ((z : ObjId) → Member z all → owned_in all z ≡ true) → length rest < n → (here : ObjId) → Member here all → Seen all rest here → ⊥

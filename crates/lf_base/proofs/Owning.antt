@@ -52,7 +52,7 @@ sum_plus f g h e (x ∷ xs) = omega (arith, sum_by-cons f x xs, sum_by-cons g x 
 -- the owning edges of a bridge b after: those before, and the edges to b from rows that moved to another region than b
 pub owning_relabel : (rows : List Row) (os : List ObjId) (home b : ObjId) (es : List Edge) → AreLocal rows os
     → count_by (λ e. is_owning (relabel rows os (In home)) e.from b && same_name e.to b) es
-      ≡ count_by (λ e. is_owning rows e.from b && same_name e.to b) es + count_by (λ e. (from_one_of os e.from && not (same_name home b)) && same_name e.to b) es
+    ≡ count_by (λ e. is_owning rows e.from b && same_name e.to b) es + count_by (λ e. (from_one_of os e.from && not (same_name home b)) && same_name e.to b) es
 owning_relabel rows os home b es l =
     sum_plus _ _ _ (λ (e : Edge). ap (λ z. bit (z && same_name e.to b)) (source_relabel rows os home b l e.from)
-      ∙ point (is_owning rows e.from b) (from_one_of os e.from) (not (same_name home b)) (same_name e.to b) (not_before rows os b l e.from)) es
+    ∙ point (is_owning rows e.from b) (from_one_of os e.from) (not (same_name home b)) (same_name e.to b) (not_before rows os b l e.from)) es

@@ -13,7 +13,6 @@ use Rattle.lf_base.specs.Sets.{Member}
 use Rattle.lf_base.specs.WalkCounts.{borrows, is_borrower}
 use Rattle.lf_base.specs.WriteResult.{relabel}
 use Rattle.lf_base.proofs.Names.{same_name_is, same_name_itself}
-use Rattle.lf_base.proofs.Watch.{inside}
 
 abbrev pub owner_over : Bool → Owner → Option Owner → Option Owner
 owner_over b w None = None
@@ -29,13 +28,13 @@ owner_relabel [] os w o = refl
 owner_relabel (r ∷ rs) os w o =
     elim (has_name os r.name) as (λ b. has_name os r.name ≡ b → owner_in (cond b (record r { owner = w }) r ∷ relabel rs os w) o ≡ owner_over (has_name os o) w (owner_in (r ∷ rs) o)) [
       | true ↦ λ e. elim (same_name r.name o) as (λ c. same_name r.name o ≡ c → row_owner (cond c (Some (record r { owner = w })) (row_at (relabel rs os w) o)) ≡ owner_over (has_name os o) w (row_owner (cond c (Some r) (row_at rs o)))) [
-          | true ↦ λ h. ap (λ b. owner_over b w (Some (r.owner))) (sym e ∙ ap (has_name os) (same_name_is r.name o h))
-          | false ↦ λ h. owner_relabel rs os w o
-        ] refl
+        | true ↦ λ h. ap (λ b. owner_over b w (Some (r.owner))) (sym e ∙ ap (has_name os) (same_name_is r.name o h))
+        | false ↦ λ h. owner_relabel rs os w o
+      ] refl
       | false ↦ λ e. elim (same_name r.name o) as (λ c. same_name r.name o ≡ c → row_owner (cond c (Some r) (row_at (relabel rs os w) o)) ≡ owner_over (has_name os o) w (row_owner (cond c (Some r) (row_at rs o)))) [
-          | true ↦ λ h. ap (λ b. owner_over b w (Some (r.owner))) (sym e ∙ ap (has_name os) (same_name_is r.name o h))
-          | false ↦ λ h. owner_relabel rs os w o
-        ] refl
+        | true ↦ λ h. ap (λ b. owner_over b w (Some (r.owner))) (sym e ∙ ap (has_name os) (same_name_is r.name o h))
+        | false ↦ λ h. owner_relabel rs os w o
+      ] refl
     ] refl
 
 abbrev pub bit : Bool → ℕ

@@ -69,8 +69,8 @@ module _ {X : Type 0} (stays : List X → X → Bool) where
   shrink_meets (suc n) xs h =
       elim (full_or_less (stays xs) xs) [
         | inl e ↦ let f : filter (stays xs) xs ≡ xs = filter_full (stays xs) xs e in
-                 let g : shrink stays (suc n) xs ≡ xs = shrink_fixed (suc n) xs f in
-                 subst (λ ys. filter (stays ys) ys ≡ ys) (sym g) f
+            let g : shrink stays (suc n) xs ≡ xs = shrink_fixed (suc n) xs f in
+            subst (λ ys. filter (stays ys) ys ≡ ys) (sym g) f
         | inr l ↦ shrink_meets n (filter (stays xs) xs) (omega arith)
       ]
 

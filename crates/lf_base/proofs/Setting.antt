@@ -22,8 +22,8 @@ apart_of s t o e (Some w) h = absurd (differ_apart (names s.rows) (names s.given
 
 pub setting_of : (s : State) → WellFormed s → Setting s
 setting_of s t = record {
-    distinct = differ_rows s.rows (names s.given ++ names s.own) t.names_differ;
-    bridge = t.bridge;
-    leads = t.leads;
-    apart = λ o e. apart_of s t o e (owner_in s.rows o) refl
-  }
+  distinct = differ_rows s.rows (names s.given ++ names s.own) t.names_differ;
+  bridge = t.bridge;
+  leads = t.leads;
+  apart = λ o e. apart_of s t o e (owner_in s.rows o) refl;
+}

@@ -31,7 +31,7 @@ by_owner s xs ys o (In r) w =
     elim (same_name r o) as (λ b. cond b (is_owned_by xs s r || points_into xs s r) (has_row xs r && points xs s o) ≡ true → cond b (is_owned_by ys s r || points_into ys s r) (has_row ys r && points ys s o) ≡ true) [
       | true ↦ or_both _ _ _ _
           (any_more _ (rows_edges xs ++ (content_edges s.held ++ content_edges s.made)) (rows_edges ys ++ (content_edges s.held ++ content_edges s.made))
-            (Within_append (rows_edges xs) (rows_edges ys) (content_edges s.held ++ content_edges s.made) (content_edges s.held ++ content_edges s.made) (Within_flat_map row_edges xs ys w) (λ x h. h)))
+          (Within_append (rows_edges xs) (rows_edges ys) (content_edges s.held ++ content_edges s.made) (content_edges s.held ++ content_edges s.made) (Within_flat_map row_edges xs ys w) (λ x h. h)))
           (any_more _ (slot_edges s.slots ++ rows_edges xs) (slot_edges s.slots ++ rows_edges ys) (more_edges s xs ys w))
       | false ↦ and_both _ _ _ _
           (any_more _ xs ys w)

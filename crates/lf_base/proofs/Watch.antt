@@ -109,7 +109,7 @@ module _ (s : State) (g : Setting s) where
   pub owning_seen : (rows : List Row) (e : Edge) (p q r : ObjId) → Member e (rows_edges rows) → e.from ≡ Field p → owner_in s.rows p ≡ Some (In q) → same_name q r ≡ false → r ≡ e.to → is_owned_by rows s r ≡ true
   owning_seen rows e p q r m f own other to =
       Member_any _ e (rows_edges rows ++ (content_edges s.held ++ content_edges s.made)) (Member_left e (rows_edges rows) _ m)
-        (and_join _ _ (ap (λ z. is_owning s.rows z r) f ∙ ap (is_in_other r) own ∙ ap not other) (ap (λ n. same_name n r) (sym to) ∙ same_name_itself r))
+      (and_join _ _ (ap (λ z. is_owning s.rows z r) f ∙ ap (is_in_other r) own ∙ ap not other) (ap (λ n. same_name n r) (sym to) ∙ same_name_itself r))
 
   pub source : (e : Edge) (t : EdgeRow s.rows e) → (w : Owner) → owner_in s.rows e.to ≡ Some w → from_row (Some ((t.row).owner)) e.to (Some w) ≡ true
   source e t w h = row_leads s g.distinct g.leads t.row t.mem e (edge_in s e (row_edge s.rows t.row e t.mem t.from t.to)) t.from w h
@@ -164,10 +164,10 @@ module _ (s : State) (g : Setting s) where
   -- where each row that must go hangs on a suspect, each bare unit is one
   pub hang_watched : (w : List Suspect) → AllHang s w → Watched s w
   hang_watched w h = record {
-      locals = λ o e n. hang_local w o e n (h o (bare_goes o Local e n));
-      regions = λ r e b. hang_region w r b r e (h r (bare_goes r (In r) e (bare_region r b)));
-      inners = λ o r e d k n. hang_inner w o r e k n (h o (bare_goes o (In r) e (bare_inner o r d n)))
-    }
+    locals = λ o e n. hang_local w o e n (h o (bare_goes o Local e n));
+    regions = λ r e b. hang_region w r b r e (h r (bare_goes r (In r) e (bare_region r b)));
+    inners = λ o r e d k n. hang_inner w o r e k n (h o (bare_goes o (In r) e (bare_inner o r d n)));
+  }
 
   -- ---- nothing left to watch
   points_by : (rows : List Row) (o : ObjId) (v : Owner) → owner_in s.rows o ≡ Some v → points s.rows s o ≡ true → ((x : Row) → Member x s.rows → from_row (Some (x.owner)) o (Some v) ≡ true → Member x rows) → points rows s o ≡ true
@@ -175,14 +175,14 @@ module _ (s : State) (g : Setting s) where
       let t = any_Member (λ (d : Edge). same_name d.to o) (near_edges s.rows) e in
       let to : (t.0).to ≡ o = same_name_is (t.0).to o t.1.1 in
       Member_any (λ (d : Edge). same_name d.to o) t.0 (near_edges rows)
-        (elim (Member_of_append t.0 (slot_edges s.slots) (rows_edges s.rows) t.1.0) [
-          | inl m ↦ Member_left t.0 (slot_edges s.slots) (rows_edges rows) m
-          | inr m ↦ let x = edge_row s.rows t.0 m in
-              Member_right t.0 (slot_edges s.slots) (rows_edges rows) (row_edge rows x.row t.0
-                (f x.row x.mem (subst (λ n. from_row (Some ((x.row).owner)) n (Some v) ≡ true) to (source t.0 x v (ap (owner_in s.rows) to ∙ h))))
-                x.from x.to)
-        ])
-        t.1.1
+      (elim (Member_of_append t.0 (slot_edges s.slots) (rows_edges s.rows) t.1.0) [
+        | inl m ↦ Member_left t.0 (slot_edges s.slots) (rows_edges rows) m
+        | inr m ↦ let x = edge_row s.rows t.0 m in
+            Member_right t.0 (slot_edges s.slots) (rows_edges rows) (row_edge rows x.row t.0
+            (f x.row x.mem (subst (λ n. from_row (Some ((x.row).owner)) n (Some v) ≡ true) to (source t.0 x v (ap (owner_in s.rows) to ∙ h))))
+            x.from x.to)
+      ])
+      t.1.1
 
   module _ (w : Watched s []) where
     abbrev near : List Row
@@ -192,10 +192,12 @@ module _ (s : State) (g : Setting s) where
     all_near = joined_has s near (λ x m.
         let t = Member_of_filter (λ (y : Row). is_local y.owner) x s.rows m in
         let here : x.owner ≡ Local = local_is x.owner t.1 in
-        let own : owner_in s.rows x.name ≡ Some Local = owner_mem s.rows g.distinct x t.0 ∙ ap Some here in
-        (t.0, ap (stays_by_owner s (kept_rows s ++ near) x.name) here
-          ∙ points_by (kept_rows s ++ near) x.name Local own (true_by _ (λ n. w.locals x.name own n))
-            (λ y k f. Member_right y (kept_rows s) near (Member_filter (λ (z : Row). is_local z.owner) y s.rows k (ap is_local (to_local y.owner x.name f))))))
+        let own : owner_in s.rows x.name ≡ Some Local = owner_mem s.rows g.distinct x t.0 ∙ ap Some here in (
+          t.0,
+          ap (stays_by_owner s (kept_rows s ++ near) x.name) here
+              ∙ points_by (kept_rows s ++ near) x.name Local own (true_by _ (λ n. w.locals x.name own n))
+              (λ y k f. Member_right y (kept_rows s) near (Member_filter (λ (z : Row). is_local z.owner) y s.rows k (ap is_local (to_local y.owner x.name f)))),
+        ))
 
     pub local_stays : (x : Row) → Member x s.rows → x.owner ≡ Local → Member x (kept_rows s)
     local_stays x m e = all_near x (Member_filter (λ (z : Row). is_local z.owner) x s.rows m (ap is_local e))
@@ -217,12 +219,12 @@ module _ (s : State) (g : Setting s) where
             | false ↦ λ h.
                 ap (λ c. cond c (is_owned_by (kept_rows s ++ part) s r || points_into (kept_rows s ++ part) s r) (has_row (kept_rows s ++ part) r && points (kept_rows s ++ part) s x.name)) h
                 ∙ and_join _ _ (any_more _ (kept_rows s) (kept_rows s ++ part) part_more there)
-                  (points_by (kept_rows s ++ part) x.name (In r) own (true_by _ (λ n. w.inners x.name r own h there n))
-                    (λ y k f. elim (to_region y.owner x.name r f) [
-                      | inl l ↦ Member_left y (kept_rows s) part (local_stays y k l)
-                      | inr (inl l) ↦ Member_right y (kept_rows s) part (Member_filter (λ (z : Row). is_in r (Some (z.owner))) y s.rows k (ap (λ z. is_in r (Some z)) l ∙ same_name_itself r))
-                      | inr (inr l) ↦ absurd (no_both _ (ap (same_name r) (sym l.1.1.1) ∙ same_name_itself r) h)
-                    ]))
+                (points_by (kept_rows s ++ part) x.name (In r) own (true_by _ (λ n. w.inners x.name r own h there n))
+                (λ y k f. elim (to_region y.owner x.name r f) [
+                  | inl l ↦ Member_left y (kept_rows s) part (local_stays y k l)
+                  | inr (inl l) ↦ Member_right y (kept_rows s) part (Member_filter (λ (z : Row). is_in r (Some (z.owner))) y s.rows k (ap (λ z. is_in r (Some z)) l ∙ same_name_itself r))
+                  | inr (inr l) ↦ absurd (no_both _ (ap (same_name r) (sym l.1.1.1) ∙ same_name_itself r) h)
+                ]))
           ] refl
 
       part_stays : Within part (kept_rows s)
@@ -241,11 +243,13 @@ module _ (s : State) (g : Setting s) where
         let one : List Row = b.row ∷ [] in
         let up : stays_by_owner s (kept_rows s) r (In r) ≡ true = ap (λ c. cond c (is_owned_by (kept_rows s) s r || points_into (kept_rows s) s r) (has_row (kept_rows s) r && points (kept_rows s) s r)) (same_name_itself r) ∙ e in
         let m : Member (b.row) (kept_rows s) = joined_has s one (λ x k. elim k [
-            | inl q ↦ (subst (λ y. Member y s.rows) q b.mem,
-                subst (λ (y : Row). stays_by_owner s (kept_rows s ++ one) y.name y.owner ≡ true) q
-                  (ap₂ (stays_by_owner s (kept_rows s ++ one)) b.name b.owner ∙ by_owner s (kept_rows s) (kept_rows s ++ one) r (In r) (λ z n. Member_left z (kept_rows s) one n) up))
-            | inr q ↦ absurd q
-          ]) b.row (inl refl) in
+          | inl q ↦ (
+            subst (λ y. Member y s.rows) q b.mem,
+            subst (λ (y : Row). stays_by_owner s (kept_rows s ++ one) y.name y.owner ≡ true) q
+                (ap₂ (stays_by_owner s (kept_rows s ++ one)) b.name b.owner ∙ by_owner s (kept_rows s) (kept_rows s ++ one) r (In r) (λ z n. Member_left z (kept_rows s) one n) up),
+          )
+          | inr q ↦ absurd q
+        ]) b.row (inl refl) in
         subst (λ n. has_row (kept_rows s) n ≡ true) b.name (mem_has b.row (kept_rows s) m)
 
     abbrev gone : List ObjId
@@ -255,8 +259,8 @@ module _ (s : State) (g : Setting s) where
     gone_mem q h n =
         let t = row_of s.rows q (In q) h in
         Member_filter (λ r. not (has_row (kept_rows s) r)) q (bridges s)
-          (Member_filter (is_bridge s.rows) q (map (λ r. r.name) s.rows) (subst (λ k. Member k (map (λ r. r.name) s.rows)) t.name (Member_map (λ (r : Row). r.name) t.row s.rows t.mem)) (ap (is_in q) h ∙ same_name_itself q))
-          (not_false _ n)
+        (Member_filter (is_bridge s.rows) q (map (λ r. r.name) s.rows) (subst (λ k. Member k (map (λ r. r.name) s.rows)) t.name (Member_map (λ (r : Row). r.name) t.row s.rows t.mem)) (ap (is_in q) h ∙ same_name_itself q))
+        (not_false _ n)
 
     owned_gone : (r : ObjId) → owner_in s.rows r ≡ Some (In r) → has_row (kept_rows s) r ≡ false → list_any (λ q. owns s q r) gone ≡ true
     owned_gone r h n =
@@ -276,8 +280,8 @@ module _ (s : State) (g : Setting s) where
                       | true ↦ λ k. absurd (no (or_left _ _ (Member_any _ t.0 (rows_edges (kept_rows s) ++ (content_edges s.held ++ content_edges s.made)) (Member_left t.0 (rows_edges (kept_rows s)) _ (row_edge (kept_rows s) x.row t.0 (inner_stays q k x.row x.mem at) x.from x.to)) t.1.1)))
                       | false ↦ λ k. Member_any (λ q. owns s q r) q gone (gone_mem q top k)
                           (and_join _ _ (ap not z.other) (and_join _ _ (ap (is_in r) h ∙ same_name_itself r)
-                            (Member_any (λ (e : Edge). is_from s.rows q e.from && same_name e.to r) t.0 (edges s) (edge_in s t.0 m)
-                              (and_join _ _ (ap (is_from s.rows q) x.from ∙ ap (is_in q) z.is ∙ same_name_itself q) p.1))))
+                          (Member_any (λ (e : Edge). is_from s.rows q e.from && same_name e.to r) t.0 (edges s) (edge_in s t.0 m)
+                          (and_join _ _ (ap (is_from s.rows q) x.from ∙ ap (is_in q) z.is ∙ same_name_itself q) p.1))))
                     ] refl
                 | inr m ↦ absurd (no (or_left _ _ (Member_any _ t.0 (rows_edges (kept_rows s) ++ (content_edges s.held ++ content_edges s.made)) (Member_right t.0 (rows_edges (kept_rows s)) _ m) t.1.1)))
               ]
@@ -285,25 +289,25 @@ module _ (s : State) (g : Setting s) where
               let t = any_Member (λ (e : Edge). is_borrower s.rows e.from && is_in r (owner_in s.rows e.to)) (near_edges s.rows) into in
               let p = and_parts _ _ t.1.1 in
               absurd (no (ap (λ c. is_owned_by (kept_rows s) s r || c) (Member_any _ t.0 (near_edges (kept_rows s))
-                (elim (Member_of_append t.0 (slot_edges s.slots) (rows_edges s.rows) t.1.0) [
-                  | inl m ↦ Member_left t.0 (slot_edges s.slots) (rows_edges (kept_rows s)) m
-                  | inr m ↦ let x = edge_row s.rows t.0 m in
-                      let l = local_at_is (owner_in s.rows (x.row).name) (ap (is_borrower s.rows) (sym x.from) ∙ p.0) in
-                      Member_right t.0 (slot_edges s.slots) (rows_edges (kept_rows s))
-                        (row_edge (kept_rows s) x.row t.0 (local_stays x.row x.mem (some_is ((x.row).owner) Local (sym (owner_mem s.rows g.distinct x.row x.mem) ∙ l))) x.from x.to)
-                ])
-                t.1.1) ∙ or_true _))
+              (elim (Member_of_append t.0 (slot_edges s.slots) (rows_edges s.rows) t.1.0) [
+                | inl m ↦ Member_left t.0 (slot_edges s.slots) (rows_edges (kept_rows s)) m
+                | inr m ↦ let x = edge_row s.rows t.0 m in
+                    let l = local_at_is (owner_in s.rows (x.row).name) (ap (is_borrower s.rows) (sym x.from) ∙ p.0) in
+                    Member_right t.0 (slot_edges s.slots) (rows_edges (kept_rows s))
+                    (row_edge (kept_rows s) x.row t.0 (local_stays x.row x.mem (some_is ((x.row).owner) Local (sym (owner_mem s.rows g.distinct x.row x.mem) ∙ l))) x.from x.to)
+              ])
+              t.1.1) ∙ or_true _))
         ]
 
     module _ (still : round s ≡ []) where
       none_gone : (r : ObjId) → Member r gone → ⊥
       none_gone r m = subst (λ l. Member r l) still
           (greatest_has (λ qs r. list_any (λ q. owns s q r) qs) (λ xs ys x v e. any_more (λ q. owns s q x) xs ys v e) (bridges s) gone
-            (λ q k. let t = Member_of_filter (λ r. not (has_row (kept_rows s) r)) q (bridges s) k in
-                    let u = Member_of_filter (is_bridge s.rows) q (map (λ r. r.name) s.rows) t.0 in
-                    owned_gone q (in_region q (owner_in s.rows q) u.1) (not_true _ t.1))
-            (λ q k. (Member_of_filter (λ r. not (has_row (kept_rows s) r)) q (bridges s) k).0)
-            r m)
+          (λ q k. let t = Member_of_filter (λ r. not (has_row (kept_rows s) r)) q (bridges s) k in
+          let u = Member_of_filter (is_bridge s.rows) q (map (λ r. r.name) s.rows) t.0 in
+          owned_gone q (in_region q (owner_in s.rows q) u.1) (not_true _ t.1))
+          (λ q k. (Member_of_filter (λ r. not (has_row (kept_rows s) r)) q (bridges s) k).0)
+          r m)
 
       bridges_stay : (r : ObjId) → owner_in s.rows r ≡ Some (In r) → has_row (kept_rows s) r ≡ true
       bridges_stay r h = true_by _ (λ n. none_gone r (gone_mem r h n))
@@ -312,9 +316,9 @@ module _ (s : State) (g : Setting s) where
       by_cases x m Local e = local_stays x m e
       by_cases x m (In r) e = inner_stays r (bridges_stay r (g.bridge x.name r (owner_mem s.rows g.distinct x m ∙ ap Some e))) x m e
       by_cases x m Frozen e = joined_has s (x ∷ []) (λ y k. elim k [
-          | inl q ↦ (subst (λ z. Member z s.rows) q m, subst (λ (z : Row). stays_by_owner s (kept_rows s ++ (x ∷ [])) z.name z.owner ≡ true) q (ap (stays_by_owner s (kept_rows s ++ (x ∷ [])) x.name) e))
-          | inr q ↦ absurd q
-        ]) x (inl refl)
+        | inl q ↦ (subst (λ z. Member z s.rows) q m, subst (λ (z : Row). stays_by_owner s (kept_rows s ++ (x ∷ [])) z.name z.owner ≡ true) q (ap (stays_by_owner s (kept_rows s ++ (x ∷ [])) x.name) e))
+        | inr q ↦ absurd q
+      ]) x (inl refl)
 
       -- when no suspect is left nothing must go
       pub settled : kept_rows s ≡ s.rows

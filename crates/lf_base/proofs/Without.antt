@@ -60,9 +60,9 @@ has_less rows p o h = false_by _ (λ k. no_both _ (any_more (λ (r : Row). same_
 distinct_filter : (p : Row → Bool) (rows : List Row) → Distinct rows → Distinct (filter p rows)
 distinct_filter p [] d = d
 distinct_filter p (r ∷ rs) d = elim (p r) as (λ b. Distinct (cond b (r ∷ filter p rs) (filter p rs))) [
-    | true ↦ (has_less rs p r.name d.0, distinct_filter p rs d.1)
-    | false ↦ distinct_filter p rs d.1
-  ]
+  | true ↦ (has_less rs p r.name d.0, distinct_filter p rs d.1)
+  | false ↦ distinct_filter p rs d.1
+]
 
 pub within_nil : {X : Type 0} (xs : List X) → ((x : X) → Member x xs → ⊥) → xs ≡ []
 within_nil [] h = refl
@@ -94,9 +94,9 @@ module _ (s : State) (g : Setting s) (gone : ObjId → Bool) (c : CanGo s gone) 
   -- an edge from a slot or a row that stays leads to a row that stays
   near_clear : (rows : List Row) → Within rows rest.rows → (e : Edge) → Member e (slot_edges s.slots ++ rows_edges rows) → gone e.to ≡ false
   near_clear rows w e m = c.clear e (elim (Member_of_append e (slot_edges s.slots) (rows_edges rows) m) [
-      | inl k ↦ Member_left e (slot_edges s.slots) _ k
-      | inr k ↦ Member_right e (slot_edges s.slots) _ (Member_left e (rows_edges rest.rows) _ (Within_flat_map row_edges rows rest.rows w e k))
-    ])
+    | inl k ↦ Member_left e (slot_edges s.slots) _ k
+    | inr k ↦ Member_right e (slot_edges s.slots) _ (Member_left e (rows_edges rest.rows) _ (Within_flat_map row_edges rows rest.rows w e k))
+  ])
 
   owning_less : (f : Source) (r : ObjId) → is_owning rest.rows f r ≡ true → is_owning s.rows f r ≡ true
   owning_less Slot r e = e
@@ -133,15 +133,15 @@ module _ (s : State) (g : Setting s) (gone : ObjId → Bool) (c : CanGo s gone) 
 
   near_left : (rows : List Row) → Within rows rest.rows → (e : Edge) → Member e (slot_edges s.slots ++ rows_edges rows) → Left e.from
   near_left rows w e m = elim (Member_of_append e (slot_edges s.slots) (rows_edges rows) m) [
-      | inl k ↦ λ p f. let z = sym (slot_from e k) ∙ f in cc
-      | inr k ↦ row_left rows w e k
-    ]
+    | inl k ↦ λ p f. let z = sym (slot_from e k) ∙ f in cc
+    | inr k ↦ row_left rows w e k
+  ]
 
   owner_left : (rows : List Row) → Within rows rest.rows → (e : Edge) → Member e (rows_edges rows ++ (content_edges s.held ++ content_edges s.made)) → Left e.from
   owner_left rows w e m = elim (Member_of_append e (rows_edges rows) (content_edges s.held ++ content_edges s.made) m) [
-      | inl k ↦ row_left rows w e k
-      | inr k ↦ elim (Member_of_append e (content_edges s.held) (content_edges s.made) k) [ inl n ↦ content_from s.held e n | inr n ↦ content_from s.made e n ]
-    ]
+    | inl k ↦ row_left rows w e k
+    | inr k ↦ elim (Member_of_append e (content_edges s.held) (content_edges s.made) k) [ inl n ↦ content_from s.held e n | inr n ↦ content_from s.made e n ]
+  ]
 
   -- what a part of the rows shows in what is left it shows in the whole, and the other way
   owned_less : (rows : List Row) (r : ObjId) → is_owned_by rows rest r ≡ true → is_owned_by rows s r ≡ true
@@ -181,10 +181,10 @@ module _ (s : State) (g : Setting s) (gone : ObjId → Bool) (c : CanGo s gone) 
   pub kept_without : kept_rows rest ≡ kept_rows s
   kept_without =
       sub_same (kept_rows rest) (kept_rows s) s.rows g.distinct
-        (sub_then (sub_shrink (stays rest) (length rest.rows) rest.rows) (sub_filter _ s.rows))
-        (sub_shrink (stays s) (length s.rows) s.rows)
-        (kept_has s (kept_rows rest) (λ x m. stays_less (kept_rows rest) x.name x.owner (kept_meets rest x m)) (λ x m. rest_rows x (rest_kept_in x m)))
-        (kept_has rest (kept_rows s) (λ x m. stays_back (kept_rows s) kept_rest x.name x.owner (kept_meets s x m)) kept_rest)
+      (sub_then (sub_shrink (stays rest) (length rest.rows) rest.rows) (sub_filter _ s.rows))
+      (sub_shrink (stays s) (length s.rows) s.rows)
+      (kept_has s (kept_rows rest) (λ x m. stays_less (kept_rows rest) x.name x.owner (kept_meets rest x m)) (λ x m. rest_rows x (rest_kept_in x m)))
+      (kept_has rest (kept_rows s) (λ x m. stays_back (kept_rows s) kept_rest x.name x.owner (kept_meets s x m)) kept_rest)
 
   -- ---- the setting stays
   frozen_left : (o : ObjId) → (has_row s.given o || has_row s.own o) ≡ true → gone o ≡ false
@@ -198,18 +198,18 @@ module _ (s : State) (g : Setting s) (gone : ObjId → Bool) (c : CanGo s gone) 
       elim (Member_of_append e (slot_edges s.slots) _ m) [
         | inl k ↦ λ p f. let z = sym (slot_from e k) ∙ f in cc
         | inr k ↦ elim (Member_of_append e (rows_edges rest.rows) _ k) [
-            | inl n ↦ row_left rest.rows (λ x h. h) e n
-            | inr n ↦ elim (Member_of_append e (content_edges s.held) _ n) [
-                | inl q ↦ content_from s.held e q
-                | inr q ↦ elim (Member_of_append e (content_edges s.made) _ q) [
-                    | inl z ↦ content_from s.made e z
-                    | inr z ↦ elim (Member_of_append e (rows_edges s.given) (rows_edges s.own) z) [
-                        | inl y ↦ frozen_edge s.given (λ o h. frozen_left o (or_left _ _ h)) e y
-                        | inr y ↦ frozen_edge s.own (λ o h. frozen_left o (ap (λ b. has_row s.given o || b) h ∙ or_true _)) e y
-                      ]
-                  ]
+          | inl n ↦ row_left rest.rows (λ x h. h) e n
+          | inr n ↦ elim (Member_of_append e (content_edges s.held) _ n) [
+            | inl q ↦ content_from s.held e q
+            | inr q ↦ elim (Member_of_append e (content_edges s.made) _ q) [
+              | inl z ↦ content_from s.made e z
+              | inr z ↦ elim (Member_of_append e (rows_edges s.given) (rows_edges s.own) z) [
+                | inl y ↦ frozen_edge s.given (λ o h. frozen_left o (or_left _ _ h)) e y
+                | inr y ↦ frozen_edge s.own (λ o h. frozen_left o (ap (λ b. has_row s.given o || b) h ∙ or_true _)) e y
               ]
+            ]
           ]
+        ]
       ]
 
   lead_same : (f : Source) (o : ObjId) → Left f → gone o ≡ false → may_lead rest f o ≡ may_lead s f o
@@ -219,12 +219,12 @@ module _ (s : State) (g : Setting s) (gone : ObjId → Bool) (c : CanGo s gone) 
 
   pub setting_without : Setting rest
   setting_without = record {
-      distinct = distinct_filter (λ r. not (gone r.name)) s.rows g.distinct;
-      bridge = λ o r h. let t = owner_old s.rows gone o (In r) h in
-          owner_stay s.rows gone r (false_by _ (λ k. no_both _ (c.whole o r t.1 k) t.0)) ∙ g.bridge o r t.1;
-      leads = λ e m. lead_same e.from e.to (all_left e m) (c.clear e m) ∙ g.leads e (rest_edges e m);
-      apart = λ o h. owner_stay s.rows gone o (frozen_left o h) ∙ g.apart o h
-    }
+    distinct = distinct_filter (λ r. not (gone r.name)) s.rows g.distinct;
+    bridge = λ o r h. let t = owner_old s.rows gone o (In r) h in
+        owner_stay s.rows gone r (false_by _ (λ k. no_both _ (c.whole o r t.1 k) t.0)) ∙ g.bridge o r t.1;
+    leads = λ e m. lead_same e.from e.to (all_left e m) (c.clear e m) ∙ g.leads e (rest_edges e m);
+    apart = λ o h. owner_stay s.rows gone o (frozen_left o h) ∙ g.apart o h;
+  }
 
   from_less : (q : ObjId) (f : Source) → is_from rest.rows q f ≡ true → is_from s.rows q f ≡ true
   from_less q Slot e = e
@@ -236,8 +236,8 @@ module _ (s : State) (g : Setting s) (gone : ObjId → Bool) (c : CanGo s gone) 
       let a = and_parts (not (same_name q r)) _ e in
       let b = and_parts (is_bridge rest.rows r) _ a.1 in
       and_join _ _ a.0 (and_join _ _ (show (is_in r) refl s.rows gone r b.0)
-        (any_more (λ (d : Edge). is_from s.rows q d.from && same_name d.to r) (edges rest) (edges s) rest_edges
-          (any_weaker (λ (d : Edge). is_from rest.rows q d.from && same_name d.to r) (λ (d : Edge). is_from s.rows q d.from && same_name d.to r) (edges rest) (λ x m h. let k = and_parts _ _ h in and_join _ _ (from_less q x.from k.0) k.1) b.1)))
+      (any_more (λ (d : Edge). is_from s.rows q d.from && same_name d.to r) (edges rest) (edges s) rest_edges
+      (any_weaker (λ (d : Edge). is_from rest.rows q d.from && same_name d.to r) (λ (d : Edge). is_from s.rows q d.from && same_name d.to r) (edges rest) (λ x m h. let k = and_parts _ _ h in and_join _ _ (from_less q x.from k.0) k.1) b.1)))
 
   bridges_less : Within (bridges rest) (bridges s)
   bridges_less q m =
@@ -248,9 +248,9 @@ module _ (s : State) (g : Setting s) (gone : ObjId → Bool) (c : CanGo s gone) 
   pub round_without : round s ≡ [] → round rest ≡ []
   round_without e = within_nil (round rest) (λ r m. subst (λ l. Member r l) e
       (greatest_has (λ qs r. list_any (λ q. owns s q r) qs) (λ xs ys x v k. any_more (λ q. owns s q x) xs ys v k) (bridges s) (round rest)
-        (λ q k. any_weaker (λ p. owns rest p q) (λ p. owns s p q) (round rest) (λ p n h. owns_less p q h) (greatest_meets (λ qs r. list_any (λ q. owns rest q r) qs) (bridges rest) q k))
-        (λ q k. bridges_less q (sub_within (sub_shrink (λ qs r. list_any (λ q. owns rest q r) qs) (length (bridges rest)) (bridges rest)) q k))
-        r m))
+      (λ q k. any_weaker (λ p. owns rest p q) (λ p. owns s p q) (round rest) (λ p n h. owns_less p q h) (greatest_meets (λ qs r. list_any (λ q. owns rest q r) qs) (bridges rest) q k))
+      (λ q k. bridges_less q (sub_within (sub_shrink (λ qs r. list_any (λ q. owns rest q r) qs) (length (bridges rest)) (bridges rest)) q k))
+      r m))
 
   -- ---- what is watched stays watched
   near_less : (o : ObjId) → points rest.rows rest o ≡ true → points s.rows s o ≡ true
@@ -283,16 +283,16 @@ module _ (s : State) (g : Setting s) (gone : ObjId → Bool) (c : CanGo s gone) 
 
   pub watched_without : (u : Suspect) (new w : List Suspect) → Spent gone u → Renewed s gone new → Watched s (u ∷ w) → Watched rest (new ++ w)
   watched_without u new w p n h = record {
-      locals = λ o e k. let t = owner_old s.rows gone o Local e in
-          by_either (points s.rows s o) (λ z. Member_left (Object o) new w (n.locals o e z k)) (λ z. later u new w o p t.0 (h.locals o t.1 z));
-      regions = λ r e b. let t = owner_old s.rows gone r (In r) e in
-          elim (is_bare r (is_owned_by s.rows s r) (points_into s.rows s r) refl refl) [
-            | inl z ↦ watch_later u new w r p t.0 z (h.regions r t.1 z)
-            | inr z ↦ watch_new new w r (n.regions r e z b)
-          ];
-      inners = λ o r e d k z. let t = owner_old s.rows gone o (In r) e in
-          by_either (points s.rows s o) (λ y. Member_left (Object o) new w (n.inners o r e d y z)) (λ y. later u new w o p t.0 (h.inners o r t.1 d (subst (λ l. has_row l r ≡ true) kept_without k) y))
-    }
+    locals = λ o e k. let t = owner_old s.rows gone o Local e in
+        by_either (points s.rows s o) (λ z. Member_left (Object o) new w (n.locals o e z k)) (λ z. later u new w o p t.0 (h.locals o t.1 z));
+    regions = λ r e b. let t = owner_old s.rows gone r (In r) e in
+        elim (is_bare r (is_owned_by s.rows s r) (points_into s.rows s r) refl refl) [
+          | inl z ↦ watch_later u new w r p t.0 z (h.regions r t.1 z)
+          | inr z ↦ watch_new new w r (n.regions r e z b)
+        ];
+    inners = λ o r e d k z. let t = owner_old s.rows gone o (In r) e in
+        by_either (points s.rows s o) (λ y. Member_left (Object o) new w (n.inners o r e d y z)) (λ y. later u new w o p t.0 (h.inners o r t.1 d (subst (λ l. has_row l r ≡ true) kept_without k) y));
+  }
 
 -- a suspect that has a justification is forgotten
 idle_region : (s : State) (u : Suspect) (w : List Suspect) (r : ObjId) → Idle s u → owner_in s.rows r ≡ Some (In r) → Bare s r → WatchedBy s (u ∷ w) r → WatchedBy s w r
@@ -312,10 +312,10 @@ idle_inner s u w o r i e d n (inr m) = m
 
 pub watched_forget : (s : State) (u : Suspect) (w : List Suspect) → Idle s u → Watched s (u ∷ w) → Watched s w
 watched_forget s u w i h = record {
-    locals = λ o e n. idle_local s u w o i e n (h.locals o e n);
-    regions = λ r e b. idle_region s u w r i e b (h.regions r e b);
-    inners = λ o r e d k n. idle_inner s u w o r i e d n (h.inners o r e d k n)
-  }
+  locals = λ o e n. idle_local s u w o i e n (h.locals o e n);
+  regions = λ r e b. idle_region s u w r i e b (h.regions r e b);
+  inners = λ o r e d k n. idle_inner s u w o r i e d n (h.inners o r e d k n);
+}
 
 -- a run over all suspects leaves the rows that stay
 pub run_kept : (s t : State) (w : List Suspect) → Run s w t → Setting s → round s ≡ [] → Watched s w → t ≡ record s { rows = kept_rows s }

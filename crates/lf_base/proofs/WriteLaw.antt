@@ -73,7 +73,6 @@ below_or n = grind arith
 pub few : (n : ℕ) → ltb 1 n ≡ false → n ≤ 1
 few n e = elim (below_or n) [ inl h ↦ absurd (no_both _ ((Decides-ltb 1 n).1 h) e) | inr h ↦ h ]
 
-
 pub many : (n : ℕ) → n ≤ 1 → ltb 1 n ≡ false
 many n h = false_by _ (λ e. let k : 1 < n = (Decides-ltb 1 n).0 e in absurd (omega arith))
 
@@ -107,8 +106,8 @@ interior_quiet s l = any_none (λ e. leads_inside s.rows e (owner_in s.rows e.to
 pub well_formed_quiet : (s : State) → WellFormed s → fault_shown s ≡ None
 well_formed_quiet s t =
     (λ i. first_shown (interior_quiet s t.leads i)
-      (any_none (λ r. ltb 1 (owning_edges s r)) (bridges s) (λ r m. many (owning_edges s r) (t.one_owner r (Member_of_filter (is_bridge s.rows) r (map (λ r. r.name) s.rows) m).1)) i)
-      (is_some_list (t.no_round i)))
+    (any_none (λ r. ltb 1 (owning_edges s r)) (bridges s) (λ r m. many (owning_edges s r) (t.one_owner r (Member_of_filter (is_bridge s.rows) r (map (λ r. r.name) s.rows) m).1)) i)
+    (is_some_list (t.no_round i)))
 
 -- a mutable row isn't Frozen, by its name
 pub mutable_at : (s : State) → WellFormed s → (o : ObjId) → owner_in s.rows o ≡ Some Frozen → ⊥
@@ -146,15 +145,15 @@ module _ (s : State) (rows : List Row) (x : ObjId) (v : Value) (os : List ObjId)
 
   pub kind : (o : ObjId) → Kind o
   kind o = elim (has_name os o) as (λ b. has_name os o ≡ b → Kind o) [
-      | true ↦ λ e. shifted e (c.near o e) (c.owners o ∙ (λ i. owner_over (e i) (In home) (c.near o e i)))
-      | false ↦ λ e. unmoved e (c.owners o ∙ over_stay (has_name os o) (owner_in s.rows o) e)
-    ] refl
+    | true ↦ λ e. shifted e (c.near o e) (c.owners o ∙ (λ i. owner_over (e i) (In home) (c.near o e i)))
+    | false ↦ λ e. unmoved e (c.owners o ∙ over_stay (has_name os o) (owner_in s.rows o) e)
+  ] refl
 
   near_kept : (o : ObjId) → from_near (owner_of s o) ≡ true → from_near (owner_of after o) ≡ true
   near_kept o e = elim (kind o) [
-      | unmoved h k ↦ ap (λ w. from_near (or_frozen (froze o) w)) k ∙ e
-      | shifted h k n ↦ ap (λ w. from_near (or_frozen (froze o) w)) n
-    ]
+    | unmoved h k ↦ ap (λ w. from_near (or_frozen (froze o) w)) k ∙ e
+    | shifted h k n ↦ ap (λ w. from_near (or_frozen (froze o) w)) n
+  ]
 
   module _ (quiet : shows_interior after ≡ false) where
     -- no edge leads from a region to the inside of another one
@@ -162,7 +161,7 @@ module _ (s : State) (rows : List Row) (x : ObjId) (v : Value) (os : List ObjId)
     outside e m p q r f h k =
         let n : leads_inside rows e (owner_in rows e.to) ≡ false = none_any (λ e. leads_inside rows e (owner_in rows e.to)) (edges after) quiet e m in
         nor_or (same_name q r) (same_name r e.to)
-          ((λ i. is_in_other r (sym h i) && not (same_name r e.to)) ∙ (λ i. is_inner_source rows (sym f i) r && not (same_name r e.to)) ∙ (λ i. leads_inside rows e (sym k i)) ∙ n)
+        ((λ i. is_in_other r (sym h i) && not (same_name r e.to)) ∙ (λ i. is_inner_source rows (sym f i) r && not (same_name r e.to)) ∙ (λ i. leads_inside rows e (sym k i)) ∙ n)
 
     -- a row of a region leads where it may
     from_region : (e : Edge) → Member e (edges after) → (p q : ObjId) → e.from ≡ Field p → owner_in rows p ≡ Some (In q) → from_near (owner_of after e.to) ≡ true → (owner_in s.rows e.to ≡ Some Local → has_name os e.to ≡ true) → (b : Option Owner) → owner_of after e.to ≡ b → from_inner q e.to b ≡ true
@@ -178,34 +177,34 @@ module _ (s : State) (rows : List Row) (x : ObjId) (v : Value) (os : List ObjId)
 
     old_row : (e : Edge) → Member e (edges after) → Member e (edges s) → (p : ObjId) → e.from ≡ Field p → may_lead s (Field p) e.to ≡ true → may_lead after (Field p) e.to ≡ true
     old_row e m o p f l = elim (kind p) [
-        | unmoved h k ↦
-            let same : owner_of after p ≡ owner_of s p = ap (or_frozen (froze p)) k in
-            ap (λ w. from_row w e.to (owner_of after e.to)) same ∙ elim (kind e.to) [
-              | unmoved g z ↦ ap (λ w. from_row (owner_of s p) e.to (or_frozen (froze e.to) w)) z ∙ l
-              | shifted g z y ↦
-                  let near : owner_of s p ≡ Some Local = lead_local (owner_of s p) e.to (ap (λ w. from_row (owner_of s p) e.to (or_frozen (froze e.to) w)) (sym z) ∙ l) in
-                  (λ i. from_row (near i) e.to (or_frozen (froze e.to) (y i)))
-            ]
-        | shifted h k n ↦
-            ap (λ w. from_row (or_frozen (froze p) w) e.to (owner_of after e.to)) n
-            ∙ from_region e m p home f n (near_kept e.to (lead_near (owner_of s p) e.to (owner_of s e.to) l)) (λ z. c.closed e o p f h z) (owner_of after e.to) refl
-      ]
+      | unmoved h k ↦
+          let same : owner_of after p ≡ owner_of s p = ap (or_frozen (froze p)) k in
+          ap (λ w. from_row w e.to (owner_of after e.to)) same ∙ elim (kind e.to) [
+            | unmoved g z ↦ ap (λ w. from_row (owner_of s p) e.to (or_frozen (froze e.to) w)) z ∙ l
+            | shifted g z y ↦
+                let near : owner_of s p ≡ Some Local = lead_local (owner_of s p) e.to (ap (λ w. from_row (owner_of s p) e.to (or_frozen (froze e.to) w)) (sym z) ∙ l) in
+                (λ i. from_row (near i) e.to (or_frozen (froze e.to) (y i)))
+          ]
+      | shifted h k n ↦
+          ap (λ w. from_row (or_frozen (froze p) w) e.to (owner_of after e.to)) n
+          ∙ from_region e m p home f n (near_kept e.to (lead_near (owner_of s p) e.to (owner_of s e.to) l)) (λ z. c.closed e o p f h z) (owner_of after e.to) refl
+    ]
 
     new_row : (e : Edge) → Member e (edges after) → e.from ≡ Field x → Member e.to (targets_of_value v) → may_lead after (Field x) e.to ≡ true
     new_row e m f n = elim (kind x) [
-        | shifted h k z ↦ absurd (no_both _ h c.target_stays)
-        | unmoved h k ↦ elim c.target [
-            | inl l ↦ ap (λ w. from_row (or_frozen (froze x) w) e.to (owner_of after e.to)) (k ∙ l) ∙ near_kept e.to (may.object_there e.to n)
-            | inr q ↦ ap (λ w. from_row (or_frozen (froze x) w) e.to (owner_of after e.to)) (k ∙ q.1)
-                ∙ from_region e m x q.0 f (k ∙ q.1) (near_kept e.to (may.object_there e.to n)) (c.start q.0 q.1 e.to n) (owner_of after e.to) refl
-          ]
+      | shifted h k z ↦ absurd (no_both _ h c.target_stays)
+      | unmoved h k ↦ elim c.target [
+        | inl l ↦ ap (λ w. from_row (or_frozen (froze x) w) e.to (owner_of after e.to)) (k ∙ l) ∙ near_kept e.to (may.object_there e.to n)
+        | inr q ↦ ap (λ w. from_row (or_frozen (froze x) w) e.to (owner_of after e.to)) (k ∙ q.1)
+            ∙ from_region e m x q.0 f (k ∙ q.1) (near_kept e.to (may.object_there e.to n)) (c.start q.0 q.1 e.to n) (owner_of after e.to) refl
       ]
+    ]
 
     content_kept : (o : ObjId) → from_content o (owner_of s o) ≡ true → from_content o (owner_of after o) ≡ true
     content_kept o e = elim (kind o) [
-        | unmoved h k ↦ ap (λ w. from_content o (or_frozen (froze o) w)) k ∙ e
-        | shifted h k n ↦ let z : from_content o (Some Local) ≡ true = ap (λ w. from_content o (or_frozen (froze o) w)) (sym k) ∙ e in cc
-      ]
+      | unmoved h k ↦ ap (λ w. from_content o (or_frozen (froze o) w)) k ∙ e
+      | shifted h k n ↦ let z : from_content o (Some Local) ≡ true = ap (λ w. from_content o (or_frozen (froze o) w)) (sym k) ∙ e in cc
+    ]
 
     old_edge : (e : Edge) → Member e (edges after) → Member e (edges s) → (f : Source) → e.from ≡ f → may_lead s f e.to ≡ true → may_lead after f e.to ≡ true
     old_edge e m o Slot f l = near_kept e.to l
@@ -214,16 +213,16 @@ module _ (s : State) (rows : List Row) (x : ObjId) (v : Value) (os : List ObjId)
 
     pub leads_after : Leads after
     leads_after e m = elim (c.old_or_new e m) [
-        | inl o ↦ old_edge e m o e.from refl (t.leads e o)
-        | inr n ↦ ap (λ z. may_lead after z e.to) n.0 ∙ new_row e m n.0 n.1
-      ]
+      | inl o ↦ old_edge e m o e.from refl (t.leads e o)
+      | inr n ↦ ap (λ z. may_lead after z e.to) n.0 ∙ new_row e m n.0 n.1
+    ]
 
   bridge_after : (o r : ObjId) → owner_in rows o ≡ Some (In r) → owner_in rows r ≡ Some (In r)
   bridge_after o r h =
       let old : owner_in s.rows r ≡ Some (In r) = elim (kind o) [
-          | unmoved e k ↦ t.bridge o r (sym k ∙ h)
-          | shifted e k n ↦ let f : home ≡ r = in_is home r (some_is (In home) (In r) (sym n ∙ h)) in subst (λ z. owner_in s.rows z ≡ Some (In z)) f (c.top o e)
-        ] in
+        | unmoved e k ↦ t.bridge o r (sym k ∙ h)
+        | shifted e k n ↦ let f : home ≡ r = in_is home r (some_is (In home) (In r) (sym n ∙ h)) in subst (λ z. owner_in s.rows z ≡ Some (In z)) f (c.top o e)
+      ] in
       elim (kind r) [
         | unmoved e k ↦ k ∙ old
         | shifted e k n ↦ absurd (in_not_local r (sym old ∙ k))
@@ -231,9 +230,9 @@ module _ (s : State) (rows : List Row) (x : ObjId) (v : Value) (os : List ObjId)
 
   mutable_after : (o : ObjId) → owner_in rows o ≡ Some Frozen → ⊥
   mutable_after o h = elim (kind o) [
-      | unmoved e k ↦ mutable_at s t o (sym k ∙ h)
-      | shifted e k n ↦ in_not_frozen home (some_is (In home) Frozen (sym n ∙ h))
-    ]
+    | unmoved e k ↦ mutable_at s t o (sym k ∙ h)
+    | shifted e k n ↦ in_not_frozen home (some_is (In home) Frozen (sym n ∙ h))
+  ]
 
   in_bridges : (r : ObjId) → is_bridge rows r ≡ true → Member r (bridges after)
   in_bridges r e =
@@ -262,27 +261,27 @@ module _ (s : State) (rows : List Row) (x : ObjId) (v : Value) (os : List ObjId)
         objects_numbered = λ o m. t.objects_numbered o (subst (λ l. Member o (l ++ (names s.given ++ names s.own))) c.same_names m);
         cowns_numbered = λ d m h. elim (cowns_from s after v (λ z n. n) (values_by_rows s rows v c.values) d m) [ inl n ↦ t.cowns_numbered d n h | inr n ↦ may.cown_numbered d n h ];
         cowns_differ = t.cowns_differ;
-        made_here = t.made_here
+        made_here = t.made_here;
       }
 
   -- ---- what a plan may look at: only new edges and edges of moved rows can show F5
   still_content : (o : ObjId) → from_content o (owner_of s o) ≡ true → from_content o (owner_of after o) ≡ true
   still_content o e = elim (kind o) [
-      | unmoved h k ↦ ap (λ w. from_content o (or_frozen (froze o) w)) k ∙ e
-      | shifted h k n ↦ let z : from_content o (Some Local) ≡ true = ap (λ w. from_content o (or_frozen (froze o) w)) (sym k) ∙ e in cc
-    ]
+    | unmoved h k ↦ ap (λ w. from_content o (or_frozen (froze o) w)) k ∙ e
+    | shifted h k n ↦ let z : from_content o (Some Local) ≡ true = ap (λ w. from_content o (or_frozen (froze o) w)) (sym k) ∙ e in cc
+  ]
 
   still_row : (p o : ObjId) → has_name os p ≡ false → may_lead s (Field p) o ≡ true → may_lead after (Field p) o ≡ true
   still_row p o g l = elim (kind p) [
-      | shifted h k n ↦ absurd (no_both _ h g)
-      | unmoved h k ↦
-          ap (λ w. from_row (or_frozen (froze p) w) o (owner_of after o)) k ∙ elim (kind o) [
-            | unmoved j z ↦ ap (λ w. from_row (owner_of s p) o (or_frozen (froze o) w)) z ∙ l
-            | shifted j z y ↦
-                let near : owner_of s p ≡ Some Local = lead_local (owner_of s p) o (ap (λ w. from_row (owner_of s p) o (or_frozen (froze o) w)) (sym z) ∙ l) in
-                (λ i. from_row (near i) o (or_frozen (froze o) (y i)))
-          ]
-    ]
+    | shifted h k n ↦ absurd (no_both _ h g)
+    | unmoved h k ↦
+        ap (λ w. from_row (or_frozen (froze p) w) o (owner_of after o)) k ∙ elim (kind o) [
+          | unmoved j z ↦ ap (λ w. from_row (owner_of s p) o (or_frozen (froze o) w)) z ∙ l
+          | shifted j z y ↦
+              let near : owner_of s p ≡ Some Local = lead_local (owner_of s p) o (ap (λ w. from_row (owner_of s p) o (or_frozen (froze o) w)) (sym z) ∙ l) in
+              (λ i. from_row (near i) o (or_frozen (froze o) (y i)))
+        ]
+  ]
 
   abbrev pub FromMoved : Source → Type 0
   FromMoved f = (p : ObjId) × ((f ≡ Field p) × (has_name os p ≡ true))
@@ -291,37 +290,37 @@ module _ (s : State) (rows : List Row) (x : ObjId) (v : Value) (os : List ObjId)
   still_or e Slot h l = inr (ap (λ z. may_lead after z e.to) h ∙ near_kept e.to l)
   still_or e (Content k) h l = inr (ap (λ z. may_lead after z e.to) h ∙ still_content e.to l)
   still_or e (Field p) h l = elim (has_name os p) as (λ b. has_name os p ≡ b → FromMoved e.from ⊎ (may_lead after e.from e.to ≡ true)) [
-      | true ↦ λ g. inl (p, (h, g))
-      | false ↦ λ g. inr (ap (λ z. may_lead after z e.to) h ∙ still_row p e.to g l)
-    ] refl
+    | true ↦ λ g. inl (p, (h, g))
+    | false ↦ λ g. inr (ap (λ z. may_lead after z e.to) h ∙ still_row p e.to g l)
+  ] refl
 
   pub interior_source : (e : Edge) → Member e (edges after) → leads_inside rows e (owner_in rows e.to) ≡ true → IsNew x v e ⊎ FromMoved e.from
   interior_source e m shown = elim (c.old_or_new e m) [
-      | inr n ↦ inl n
-      | inl o ↦ elim (still_or e e.from refl (t.leads e o)) [
-          | inl f ↦ inr f
-          | inr l ↦ absurd (no_both _ shown (inner_quiet after e.from e.to l (owner_in rows e.to) refl))
-        ]
+    | inr n ↦ inl n
+    | inl o ↦ elim (still_or e e.from refl (t.leads e o)) [
+      | inl f ↦ inr f
+      | inr l ↦ absurd (no_both _ shown (inner_quiet after e.from e.to l (owner_in rows e.to) refl))
     ]
+  ]
 
 -- ---- the write itself
 keys_write : (rows : List Row) (x : ObjId) (k : Key) (v : Value) → ((y : Row) → Member y rows → KeysDiffer y.fields) → (y : Row) → Member y (write_fields rows x k v) → KeysDiffer y.fields
 keys_write rows x k v d y m =
     let o = Member_of_map (λ r. cond (is_at x r) (record r { fields = put_field r.fields k v }) r) y rows m in
     subst (λ (z : Row). KeysDiffer z.fields) o.1.1
-      (elim (is_at x o.0) as (λ b. KeysDiffer (cond b (record (o.0) { fields = put_field (o.0).fields k v }) (o.0)).fields) [
-        | true ↦ keys_put (o.0).fields k v (d o.0 o.1.0)
-        | false ↦ d o.0 o.1.0
-      ])
+    (elim (is_at x o.0) as (λ b. KeysDiffer (cond b (record (o.0) { fields = put_field (o.0).fields k v }) (o.0)).fields) [
+      | true ↦ keys_put (o.0).fields k v (d o.0 o.1.0)
+      | false ↦ d o.0 o.1.0
+    ])
 
 keys_relabel : (rows : List Row) (os : List ObjId) (w : Owner) → ((y : Row) → Member y rows → KeysDiffer y.fields) → (y : Row) → Member y (relabel rows os w) → KeysDiffer y.fields
 keys_relabel rows os w d y m =
     let o = Member_of_map (λ r. cond (has_name os r.name) (record r { owner = w }) r) y rows m in
     subst (λ (z : Row). KeysDiffer z.fields) o.1.1
-      (elim (has_name os (o.0).name) as (λ b. KeysDiffer (cond b (record (o.0) { owner = w }) (o.0)).fields) [
-        | true ↦ d o.0 o.1.0
-        | false ↦ d o.0 o.1.0
-      ])
+    (elim (has_name os (o.0).name) as (λ b. KeysDiffer (cond b (record (o.0) { owner = w }) (o.0)).fields) [
+      | true ↦ d o.0 o.1.0
+      | false ↦ d o.0 o.1.0
+    ])
 
 module _ (s : State) (t : WellFormed s) (x : ObjId) (k : Key) (v : Value) where
   distinct : Distinct s.rows
@@ -336,18 +335,18 @@ module _ (s : State) (t : WellFormed s) (x : ObjId) (k : Key) (v : Value) where
 
   pub local_changes : owner_in s.rows x ≡ Some Local → Changes s (write_fields s.rows x k v) x v [] x
   local_changes h = record {
-      old_or_new = edges_write s x k v;
-      owners = λ o. owner_write s.rows x k v o ∙ over_none (In x) (owner_in s.rows o);
-      same_names = names_write s.rows x k v;
-      keys = keys_write s.rows x k v row_keys;
-      values = write_values s.rows x k v;
-      near = λ o e. cc;
-      closed = λ e m p f g z. cc;
-      start = λ q e o m z. absurd (in_not_local q (sym e ∙ h));
-      top = λ o e. cc;
-      target_stays = refl;
-      target = inl h
-    }
+    old_or_new = edges_write s x k v;
+    owners = λ o. owner_write s.rows x k v o ∙ over_none (In x) (owner_in s.rows o);
+    same_names = names_write s.rows x k v;
+    keys = keys_write s.rows x k v row_keys;
+    values = write_values s.rows x k v;
+    near = λ o e. cc;
+    closed = λ e m p f g z. cc;
+    start = λ q e o m z. absurd (in_not_local q (sym e ∙ h));
+    top = λ o e. cc;
+    target_stays = refl;
+    target = inl h;
+  }
 
   abbrev os : List ObjId
   os = moved_names s v
@@ -355,21 +354,21 @@ module _ (s : State) (t : WellFormed s) (x : ObjId) (k : Key) (v : Value) where
   pub frozen_other : (y : Row) → (has_row s.given y.name || has_row s.own y.name) ≡ true → (w : Owner) → owner_in s.rows y.name ≡ Some w → ⊥
   frozen_other y e w h =
       differ_apart (names s.rows) (names s.given ++ names s.own) t.names_differ y.name (has_names s.rows y.name ∙ owner_has s.rows y.name w h)
-        (elim (or_split (has_row s.given y.name) (has_row s.own y.name) e) [
-          | inl g ↦ any_more (λ p. same_name p y.name) (names s.given) (names s.given ++ names s.own) (λ z m. Member_left z (names s.given) (names s.own) m) (has_names s.given y.name ∙ g)
-          | inr g ↦ any_more (λ p. same_name p y.name) (names s.own) (names s.given ++ names s.own) (λ z m. Member_right z (names s.given) (names s.own) m) (has_names s.own y.name ∙ g)
-        ])
+      (elim (or_split (has_row s.given y.name) (has_row s.own y.name) e) [
+        | inl g ↦ any_more (λ p. same_name p y.name) (names s.given) (names s.given ++ names s.own) (λ z m. Member_left z (names s.given) (names s.own) m) (has_names s.given y.name ∙ g)
+        | inr g ↦ any_more (λ p. same_name p y.name) (names s.own) (names s.given ++ names s.own) (λ z m. Member_right z (names s.given) (names s.own) m) (has_names s.own y.name ∙ g)
+      ])
 
   frozen_not : (y : Row) → (has_row s.given y.name || has_row s.own y.name) ≡ true → owner_in s.rows y.name ≡ Some Local → ⊥
   frozen_not y e h = frozen_other y e Local h
 
   moved_closed : (e : Edge) → Member e (edges s) → (p : ObjId) → e.from ≡ Field p → has_name os p ≡ true → owner_in s.rows e.to ≡ Some Local → has_name os e.to ≡ true
   moved_closed e m p f h z = elim (begins s e m) [
-      | at_slot g n ↦ let y = sym g ∙ f in cc
-      | at_row y n g b ↦ moved_step s v distinct e b p f h z
-      | at_content d g n ↦ let y = sym g ∙ f in cc
-      | at_frozen y n g ↦ absurd (frozen_not y n (ap (owner_in s.rows) (field_is y.name p (sym g ∙ f)) ∙ moved_local s v distinct p h))
-    ]
+    | at_slot g n ↦ let y = sym g ∙ f in cc
+    | at_row y n g b ↦ moved_step s v distinct e b p f h z
+    | at_content d g n ↦ let y = sym g ∙ f in cc
+    | at_frozen y n g ↦ absurd (frozen_not y n (ap (owner_in s.rows) (field_is y.name p (sym g ∙ f)) ∙ moved_local s v distinct p h))
+  ]
 
   region_edges : (r : ObjId) (e : Edge) → Member e (edges (with_rows s (relabel (write_fields s.rows x k v) os (In r)))) → Member e (edges s) ⊎ IsNew x v e
   region_edges r e m = edges_write s x k v e
@@ -377,18 +376,18 @@ module _ (s : State) (t : WellFormed s) (x : ObjId) (k : Key) (v : Value) where
 
   pub region_changes : (r : ObjId) → owner_in s.rows x ≡ Some (In r) → Changes s (relabel (write_fields s.rows x k v) os (In r)) x v os r
   region_changes r h = record {
-      old_or_new = region_edges r;
-      owners = λ o. owner_relabel (write_fields s.rows x k v) os (In r) o ∙ ap (owner_over (has_name os o) (In r)) (owner_write s.rows x k v o);
-      same_names = names_relabel (write_fields s.rows x k v) os (In r) ∙ names_write s.rows x k v;
-      keys = keys_relabel (write_fields s.rows x k v) os (In r) (keys_write s.rows x k v row_keys);
-      values = λ w m. write_values s.rows x k v w (subst (Member w) (relabel_values (write_fields s.rows x k v) os (In r)) m);
-      near = moved_local s v distinct;
-      closed = moved_closed;
-      start = λ q e o m z. moved_start s v distinct o m z;
-      top = λ o e. t.bridge x r h;
-      target_stays = false_by _ (λ e. in_not_local r (sym h ∙ moved_local s v distinct x e));
-      target = inr (r, h)
-    }
+    old_or_new = region_edges r;
+    owners = λ o. owner_relabel (write_fields s.rows x k v) os (In r) o ∙ ap (owner_over (has_name os o) (In r)) (owner_write s.rows x k v o);
+    same_names = names_relabel (write_fields s.rows x k v) os (In r) ∙ names_write s.rows x k v;
+    keys = keys_relabel (write_fields s.rows x k v) os (In r) (keys_write s.rows x k v row_keys);
+    values = λ w m. write_values s.rows x k v w (subst (Member w) (relabel_values (write_fields s.rows x k v) os (In r)) m);
+    near = moved_local s v distinct;
+    closed = moved_closed;
+    start = λ q e o m z. moved_start s v distinct o m z;
+    top = λ o e. t.bridge x r h;
+    target_stays = false_by _ (λ e. in_not_local r (sym h ∙ moved_local s v distinct x e));
+    target = inr (r, h);
+  }
 
   module _ (may : SlotMayHold s v) where
     write_keeps : (w : Owner) → owner_in s.rows x ≡ Some w → (w ≡ Frozen → ⊥) → fault_shown (write_result s x k v) ≡ None → WellFormed (write_result s x k v)

@@ -1,5 +1,5 @@
 -- Freezing.
-use Rattle.std.specs.Prelude.{Bool, List, Some, [], cond, filter, map, not, ◌&&◌, ◌||◌, ◌∷◌}
+use Rattle.std.specs.Prelude.{Bool, List, Some, [], cond, filter, map, not, true, ◌&&◌, ◌||◌, ◌∷◌, ◌≡◌}
 use Rattle.std.specs.List.{list_any}
 use Rattle.lf_base.specs.declared.values.Owner.TheVariants.{Frozen}
 use Rattle.lf_base.specs.declared.values.Value.{Value}
@@ -7,7 +7,7 @@ use Rattle.lf_base.specs.Edges.{field_targets}
 use Rattle.lf_base.specs.Names.{name_below, targets_of_value}
 use Rattle.lf_base.specs.Owners.{has_name, has_row, is_in}
 use Rattle.lf_base.specs.PlainState.{Row, State}
-use Rattle.lf_base.specs.Sets.{least}
+use Rattle.lf_base.specs.Sets.{Member, least}
 
 -- row x brings in row y: a field of x names y, or x is the bridge of y's region
 abbrev pub brings_in : Row → Row → Bool
@@ -16,6 +16,11 @@ brings_in x y = has_name (field_targets x.fields) y.name || (is_in x.name (Some 
 -- the rows that become frozen: the least set with the row that v names, with what each row points to, and with the whole region of each bridge
 abbrev pub freeze_set : State → Value → List Row
 freeze_set s v = least (λ found row. has_name (targets_of_value v) row.name || list_any (λ x. brings_in x row) found) s.rows
+
+-- a set of rows has what a freeze of v must take: the mutable row that v names, and each mutable row that one of its rows brings in
+pub record FreezeClosed (s : State) (v : Value) (rows : List Row) : Type 0 where
+  pub first : (y : Row) → Member y s.rows → Member y.name (targets_of_value v) → Member y rows
+  pub next : (x y : Row) → Member x rows → Member y s.rows → brings_in x y ≡ true → Member y rows
 
 -- a row put among rows that stand by rising name
 abbrev pub insert_row : Row → List Row → List Row

@@ -7,6 +7,7 @@
 mod behaviours;
 mod faults;
 mod ids;
+pub mod laws;
 mod lists;
 mod memory;
 mod refusals;

@@ -1,0 +1,83 @@
+//! What was proved of the definitions of ownership, counts and dropping. Each
+//! function has an empty body; its clauses are the law.
+
+ghost use Rattle.std.specs.Prelude.{◌≡◌, ◌<◌, ◌↔◌, ◌⊎◌, ℕ, [], List, None, Some, true};
+ghost use Rattle.lf_base.specs.declared.ids.CownId.{CownId};
+ghost use Rattle.lf_base.specs.declared.ids.ObjId.{ObjId};
+ghost use Rattle.lf_base.specs.declared.values.Key.{Key};
+ghost use Rattle.lf_base.specs.declared.values.Value.{Value};
+ghost use Rattle.lf_base.specs.ContentResult.{content_fault, content_refusal, content_result, has_cown, made_result};
+ghost use Rattle.lf_base.specs.FreezeResult.{FreezeClosed, freeze_set};
+ghost use Rattle.lf_base.specs.Kept.{kept, kept_rows, stays};
+ghost use Rattle.lf_base.specs.MoveSet.{LocalPath, move_set};
+ghost use Rattle.lf_base.specs.Owners.{has_row};
+ghost use Rattle.lf_base.specs.Ownership.{Above, NoRound, below, round};
+ghost use Rattle.lf_base.specs.PlainChanges.{with_slot};
+ghost use Rattle.lf_base.specs.PlainState.{Row, State};
+ghost use Rattle.lf_base.specs.Settling.{AllHang, Run, Suspect};
+ghost use Rattle.lf_base.specs.Sets.{Member};
+ghost use Rattle.lf_base.specs.WalkCounts.{borrowed, is_open};
+ghost use Rattle.lf_base.specs.WellFormed.{SlotMayHold, WellFormed};
+ghost use Rattle.lf_base.specs.WriteResult.{write_refusal, write_result};
+
+/// The rows that stay are rows of the state and justify each other, and each set
+/// of rows that justify each other stays.
+pub fn kept_is_greatest()
+    ensures among { (s : State) (row : Row) → Member row (kept_rows s) → Member row s.rows }
+    ensures meets { (s : State) (row : Row) → Member row (kept_rows s) → stays s (kept_rows s) row ≡ true }
+    ensures greatest { (s : State) (rows : List Row) → ((row : Row) → Member row rows → Member row s.rows × (stays s rows row ≡ true)) → (row : Row) → Member row rows → Member row (kept_rows s) }
+{}
+
+/// What moves with a value is what paths of local rows from the value lead to.
+pub fn move_set_follows_paths()
+    ensures { (s : State) (v : Value) (row : Row) → Member row (move_set s v) ↔ LocalPath s v row }
+{}
+
+/// What lies below a region is what it owns, directly or through others.
+pub fn below_follows_owners()
+    ensures { (s : State) (q r : ObjId) → Member r (below s q) ↔ Above s q r }
+{}
+
+/// A region is open exactly where it is borrowed, or one that it owns, directly
+/// or through others, is borrowed.
+pub fn open_follows_owners()
+    ensures { (s : State) (r : ObjId) → (is_open s r ≡ true) ↔ ((0 < borrowed s r) ⊎ ((q : ObjId) × (Above s r q × (0 < borrowed s q)))) }
+{}
+
+/// What a freeze takes are rows of the state, it has what it must have, and each
+/// set of rows that has this has all of it.
+pub fn freeze_set_is_least()
+    ensures among { (s : State) (v : Value) (row : Row) → Member row (freeze_set s v) → Member row s.rows }
+    ensures closed { (s : State) (v : Value) → FreezeClosed s v (freeze_set s v) }
+    ensures least { (s : State) (v : Value) (rows : List Row) → FreezeClosed s v rows → (row : Row) → Member row (freeze_set s v) → Member row rows }
+{}
+
+/// Owners are found to go round exactly where some region is above itself.
+pub fn owners_go_round()
+    ensures { (s : State) → (round s ≡ []) ↔ NoRound s }
+{}
+
+/// A further slot may hold a value exactly where the state with that slot is
+/// well-formed again.
+pub fn further_slot()
+    ensures { (s : State) (v : Value) → WellFormed s → SlotMayHold s v ↔ WellFormed (with_slot s (Some v)) }
+{}
+
+/// A write of a field that isn't a frozen object's gives a well-formed state
+/// exactly where it isn't refused.
+pub fn write_law()
+    ensures { (s : State) (x : ObjId) (k : Key) (v : Value) → WellFormed s → has_row s.rows x ≡ true → SlotMayHold s v → (write_refusal s x k v ≡ None) ↔ WellFormed (write_result s x k v) }
+{}
+
+/// A write of a held cown's content gives a well-formed state exactly where it
+/// isn't refused, and so does the making of a cown.
+pub fn content_law()
+    ensures held { (s : State) (c : CownId) (v : Value) → WellFormed s → has_cown s.held c ≡ true → SlotMayHold s v → (content_refusal s c v ≡ None) ↔ WellFormed (content_result s c v) }
+    ensures made { (s : State) (v : Value) → WellFormed s → SlotMayHold s v → (content_fault (made_result s v) v ≡ None) ↔ WellFormed (made_result s v) }
+{}
+
+/// Where each row that must go hangs on a suspect, a run over the suspects leaves
+/// exactly the rows that stay.
+pub fn suspects_settle()
+    ensures { (s t : State) (w : List Suspect) → WellFormed s → AllHang s w → Run s w t → t ≡ kept s }
+{}
