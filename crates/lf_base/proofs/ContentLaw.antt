@@ -12,9 +12,10 @@ use Rattle.lf_base.specs.declared.values.Owner.{Owner}
 use Rattle.lf_base.specs.declared.values.Owner.TheVariants.{Frozen, In, Local}
 use Rattle.lf_base.specs.declared.values.Value.{Value}
 use Rattle.lf_base.specs.declared.values.Value.TheVariants.{Obj}
-use Rattle.lf_base.specs.ContentResult.{content_fault, content_result, has_cown, made_result, next_cown, put_content, target_fault, targets_fault}
+use Rattle.lf_base.specs.ContentResult.{content_fault, content_result, has_cown, put_content, target_fault, targets_fault}
 use Rattle.lf_base.specs.Edges.{Content, Edge, Field, Slot, Source, content_edges, edges, edges_by, rows_edges, slot_edges}
 use Rattle.lf_base.specs.Names.{cowns_of_value, same_cown, same_name, targets_of_value}
+use Rattle.lf_base.specs.NewCown.{made_result, next_cown}
 use Rattle.lf_base.specs.Owners.{bridges, has_row, is_bridge, is_in, or_frozen, owner_in, owner_of}
 use Rattle.lf_base.specs.Ownership.{is_from, is_owning, owning_edges, owns, round}
 use Rattle.lf_base.specs.PlainState.{State}

@@ -8,8 +8,8 @@ use Rattle.lf_base.specs.declared.values.Value.{Value}
 use Rattle.lf_base.specs.Edges.{Edge, Field, Source, content_edges, edges_by, field_targets, row_edges, rows_edges, slot_edges}
 use Rattle.lf_base.specs.Names.{same_key, same_name, targets_of_value}
 use Rattle.lf_base.specs.Owners.{has_row, row_at}
-use Rattle.lf_base.specs.PlainChanges.{field_at}
 use Rattle.lf_base.specs.PlainState.{Row, State}
+use Rattle.lf_base.specs.TakeResult.{field_at}
 use Rattle.lf_base.specs.WalkCounts.{refs}
 use Rattle.lf_base.specs.WriteResult.{put_field, write_fields}
 use Rattle.lf_base.proofs.Names.{same_name_is}

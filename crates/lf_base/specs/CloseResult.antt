@@ -1,15 +1,13 @@
--- Closing a region, and the end of a behaviour.
-use Rattle.std.specs.Prelude.{Bool, None, Option, Some, [], cond, filter, map, not, ℕ, ◌∷◌}
+-- Closing a region.
+use Rattle.std.specs.Prelude.{Bool, None, Option, Some, cond, map, ℕ, ◌∷◌}
 use Rattle.std.specs.List.{list_any}
 use Rattle.std.specs.Prelude.{is_some}
 use Rattle.lf_base.specs.declared.faults.Fault.{Fault}
 use Rattle.lf_base.specs.declared.faults.Fault.TheVariants.{NotBridge, Unset}
 use Rattle.lf_base.specs.declared.ids.ObjId.{ObjId}
 use Rattle.lf_base.specs.declared.values.Value.{Value}
-use Rattle.lf_base.specs.Kept.{kept}
-use Rattle.lf_base.specs.MergeResult.{bridge_of}
 use Rattle.lf_base.specs.Names.{is_local, targets_of_value}
-use Rattle.lf_base.specs.Owners.{is_in, owner_in}
+use Rattle.lf_base.specs.Owners.{bridge_of, is_in, owner_in}
 use Rattle.lf_base.specs.Ownership.{below}
 use Rattle.lf_base.specs.PlainChanges.{put_slot, slot_at}
 use Rattle.lf_base.specs.PlainState.{Row, State}
@@ -41,11 +39,3 @@ close_refusal_by s (Some v) = cond (is_some (bridge_of s v)) None (Some NotBridg
 -- what close of the variable at that place is refused for
 abbrev pub close_refusal : State → ℕ → Option Fault
 close_refusal s at = close_refusal_by s (slot_at s.slots at)
-
--- the state without slots and without local rows
-abbrev pub without_near : State → State
-without_near s = record s { slots = []; rows = filter (λ r. not (is_local r.owner)) s.rows }
-
--- the end of a behaviour: all slots go, then all local rows, and of the rest what stays
-abbrev pub end_result : State → State
-end_result s = kept (without_near s)

@@ -1,18 +1,17 @@
--- A write of a cown's content and the making of a cown: their results, and what they are refused for.
-use Rattle.std.specs.Prelude.{Bool, List, None, Option, Some, [], cond, false, ltb, true, ◌&&◌, ◌++◌, ◌+◌, ◌∷◌}
+-- A write of a cown's content: its result, and what it is refused for.
+use Rattle.std.specs.Prelude.{Bool, List, None, Option, Some, [], cond, ltb, ◌∷◌}
 use Rattle.std.specs.List.{list_any}
 use Rattle.lf_base.specs.declared.faults.Fault.{Fault}
-use Rattle.lf_base.specs.declared.faults.Fault.TheVariants.{Interior, LocalInCown, Open, SecondOwner}
+use Rattle.lf_base.specs.declared.faults.Fault.TheVariants.{Interior, LocalInCown, SecondOwner}
 use Rattle.lf_base.specs.declared.ids.CownId.{CownId}
 use Rattle.lf_base.specs.declared.ids.ObjId.{ObjId}
 use Rattle.lf_base.specs.declared.values.Owner.{Owner}
 use Rattle.lf_base.specs.declared.values.Owner.TheVariants.{In, Local}
 use Rattle.lf_base.specs.declared.values.Value.{Value}
 use Rattle.lf_base.specs.Names.{same_cown, same_name, targets_of_value}
-use Rattle.lf_base.specs.Owners.{is_bridge, owner_of}
+use Rattle.lf_base.specs.Owners.{owner_of}
 use Rattle.lf_base.specs.Ownership.{owning_edges}
 use Rattle.lf_base.specs.PlainState.{State}
-use Rattle.lf_base.specs.WalkCounts.{is_open}
 
 -- some of the cowns is c
 abbrev pub has_cown : List (CownId × Value) → CownId → Bool
@@ -32,14 +31,6 @@ put_content (h ∷ hs) c v = cond (same_cown h.0 c) ((h.0, v) ∷ hs) (h ∷ put
 abbrev pub content_result : State → CownId → Value → State
 content_result s c v = record s { held = put_content s.held c v }
 
--- the name of the next cown
-abbrev pub next_cown : State → CownId
-next_cown s = record { birth = s.birth; seq = s.cowns + 1 }
-
--- a new cown with content v
-abbrev pub made_result : State → Value → State
-made_result s v = record s { cowns = s.cowns + 1; made = s.made ++ (next_cown s, v) ∷ [] }
-
 -- what a state is refused for that has object o of that owner as a cown's content
 abbrev pub target_fault : State → ObjId → Option Owner → Option Fault
 target_fault s o (Some Local) = Some LocalInCown
@@ -57,18 +48,3 @@ content_fault s v = targets_fault s (targets_of_value v)
 -- what a write of a held cown's content is refused for; the result is judged as it is before anything is dropped
 abbrev pub content_refusal : State → CownId → Value → Option Fault
 content_refusal s c v = content_fault (content_result s c v) v
-
--- the value is the bridge of an open region
-abbrev pub is_open_region : State → List ObjId → Bool
-is_open_region s [] = false
-is_open_region s (o ∷ os) = is_bridge s.rows o && is_open s o
-
--- the first refusal, or else Open where the region is open
-abbrev pub or_open : Option Fault → Bool → Option Fault
-or_open (Some f) b = Some f
-or_open None true = Some Open
-or_open None false = None
-
--- what the making of a cown with content v is refused for; s is the state without the operand's own slot
-abbrev pub new_cown_refusal : State → Value → Option Fault
-new_cown_refusal s v = or_open (content_fault (made_result s v) v) (is_open_region s (targets_of_value v))

@@ -1,11 +1,12 @@
 -- Freezing.
-use Rattle.std.specs.Prelude.{Bool, List, Some, [], cond, filter, map, not, true, ◌&&◌, ◌||◌, ◌∷◌, ◌≡◌}
+use Rattle.std.specs.Prelude.{Bool, List, Some, [], filter, map, not, true, ◌&&◌, ◌||◌, ◌∷◌, ◌≡◌}
 use Rattle.std.specs.List.{list_any}
 use Rattle.lf_base.specs.declared.values.Owner.TheVariants.{Frozen}
 use Rattle.lf_base.specs.declared.values.Value.{Value}
 use Rattle.lf_base.specs.Edges.{field_targets}
-use Rattle.lf_base.specs.Names.{name_below, targets_of_value}
+use Rattle.lf_base.specs.Names.{targets_of_value}
 use Rattle.lf_base.specs.Owners.{has_name, has_row, is_in}
+use Rattle.lf_base.specs.PlainChanges.{insert_row}
 use Rattle.lf_base.specs.PlainState.{Row, State}
 use Rattle.lf_base.specs.Sets.{Member, least}
 
@@ -21,11 +22,6 @@ freeze_set s v = least (λ found row. has_name (targets_of_value v) row.name || 
 pub record FreezeClosed (s : State) (v : Value) (rows : List Row) : Type 0 where
   pub first : (y : Row) → Member y s.rows → Member y.name (targets_of_value v) → Member y rows
   pub next : (x y : Row) → Member x rows → Member y s.rows → brings_in x y ≡ true → Member y rows
-
--- a row put among rows that stand by rising name
-abbrev pub insert_row : Row → List Row → List Row
-insert_row x [] = x ∷ []
-insert_row x (y ∷ ys) = cond (name_below x.name y.name) (x ∷ (y ∷ ys)) (y ∷ insert_row x ys)
 
 abbrev pub insert_rows : List Row → List Row → List Row
 insert_rows [] ys = ys

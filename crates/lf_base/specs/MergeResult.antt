@@ -1,16 +1,16 @@
--- Merging one region into another, and dissolving a region.
-use Rattle.std.specs.Prelude.{Bool, List, None, Option, Some, [], cond, map, not, ◌&&◌, ◌∷◌}
+-- Merging one region into another.
+use Rattle.std.specs.Prelude.{Bool, List, None, Option, Some, cond, map, not, ◌&&◌}
 use Rattle.std.specs.List.{list_any}
 use Rattle.lf_base.specs.declared.faults.Fault.{Fault}
 use Rattle.lf_base.specs.declared.faults.Fault.TheVariants.{Cycle, NotBridge, Owned}
 use Rattle.lf_base.specs.declared.ids.ObjId.{ObjId}
 use Rattle.lf_base.specs.declared.values.Owner.{Owner}
-use Rattle.lf_base.specs.declared.values.Owner.TheVariants.{In, Local}
+use Rattle.lf_base.specs.declared.values.Owner.TheVariants.{In}
 use Rattle.lf_base.specs.declared.values.Value.{Value}
 use Rattle.lf_base.specs.Edges.{Source, edges}
-use Rattle.lf_base.specs.Names.{same_name, targets_of_value}
-use Rattle.lf_base.specs.Owners.{has_name, is_bridge, is_in}
-use Rattle.lf_base.specs.Ownership.{below, is_from, is_owned, is_owning, owns}
+use Rattle.lf_base.specs.Names.{same_name}
+use Rattle.lf_base.specs.Owners.{bridge_of, has_name, is_in}
+use Rattle.lf_base.specs.Ownership.{below, is_from, is_owning, owns}
 use Rattle.lf_base.specs.PlainState.{Row, State}
 
 -- the row lies in region r
@@ -21,13 +21,9 @@ lies_in r row = is_in r (Some (row.owner))
 abbrev pub relabel_region : List Row → ObjId → Owner → List Row
 relabel_region rows r w = map (λ row. cond (lies_in r row) (record row { owner = w }) row) rows
 
--- the bridge that a value is, where it is one
-abbrev pub first_bridge : State → List ObjId → Option ObjId
-first_bridge s [] = None
-first_bridge s (o ∷ os) = cond (is_bridge s.rows o) (Some o) None
-
-abbrev pub bridge_of : State → Value → Option ObjId
-bridge_of s v = first_bridge s (targets_of_value v)
+-- every row of region b goes to region a
+abbrev pub merge_result : State → ObjId → ObjId → State
+merge_result s a b = record s { rows = relabel_region s.rows b (In a) }
 
 -- an edge from here owns bridge b and comes from a cown, or from a region other than a
 abbrev pub is_owning_elsewhere : List Row → ObjId → ObjId → Source → Bool
@@ -51,19 +47,3 @@ merge_refusal_by s _ _ = Some NotBridge
 -- what merge(v, w) is refused for
 abbrev pub merge_refusal : State → Value → Value → Option Fault
 merge_refusal s v w = merge_refusal_by s (bridge_of s v) (bridge_of s w)
-
--- every row of region b goes to region a
-abbrev pub merge_result : State → ObjId → ObjId → State
-merge_result s a b = record s { rows = relabel_region s.rows b (In a) }
-
-abbrev pub dissolve_refusal_by : State → Option ObjId → Option Fault
-dissolve_refusal_by s (Some r) = cond (is_owned s r) (Some Owned) None
-dissolve_refusal_by s None = Some NotBridge
-
--- what dissolve(v) is refused for
-abbrev pub dissolve_refusal : State → Value → Option Fault
-dissolve_refusal s v = dissolve_refusal_by s (bridge_of s v)
-
--- every row of region r becomes local
-abbrev pub dissolve_result : State → ObjId → State
-dissolve_result s r = record s { rows = relabel_region s.rows r Local }

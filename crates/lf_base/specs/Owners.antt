@@ -4,7 +4,8 @@ use Rattle.std.specs.List.{list_any}
 use Rattle.lf_base.specs.declared.ids.ObjId.{ObjId}
 use Rattle.lf_base.specs.declared.values.Owner.{Owner}
 use Rattle.lf_base.specs.declared.values.Owner.TheVariants.{Frozen, In, Local}
-use Rattle.lf_base.specs.Names.{same_name}
+use Rattle.lf_base.specs.declared.values.Value.{Value}
+use Rattle.lf_base.specs.Names.{same_name, targets_of_value}
 use Rattle.lf_base.specs.PlainState.{Row, State}
 
 -- the names of the rows
@@ -60,3 +61,11 @@ or_frozen false None = None
 -- the owner of the row of that name, mutable or frozen
 abbrev pub owner_of : State → ObjId → Option Owner
 owner_of s o = or_frozen (has_row s.given o || has_row s.own o) (owner_in s.rows o)
+
+-- the bridge that a value is, where it is one
+abbrev pub first_bridge : State → List ObjId → Option ObjId
+first_bridge s [] = None
+first_bridge s (o ∷ os) = cond (is_bridge s.rows o) (Some o) None
+
+abbrev pub bridge_of : State → Value → Option ObjId
+bridge_of s v = first_bridge s (targets_of_value v)

@@ -1,18 +1,11 @@
--- Plain changes: of slots, of one field, and new objects.
-use Rattle.std.specs.Prelude.{List, None, Option, Some, [], cond, map, suc, zero, ℕ, ◌++◌, ◌+◌, ◌∷◌}
-use Rattle.std.specs.Prelude.{is_some}
-use Rattle.lf_base.specs.declared.faults.Fault.{Fault}
-use Rattle.lf_base.specs.declared.faults.Fault.TheVariants.{FrozenWrite, NoField}
+-- Plain changes: of slots, and new objects.
+use Rattle.std.specs.Prelude.{List, None, Option, [], cond, suc, zero, ℕ, ◌++◌, ◌+◌, ◌∷◌}
 use Rattle.lf_base.specs.declared.ids.ObjId.{ObjId}
-use Rattle.lf_base.specs.declared.values.Key.{Key}
 use Rattle.lf_base.specs.declared.values.Owner.{Owner}
 use Rattle.lf_base.specs.declared.values.Owner.TheVariants.{In, Local}
 use Rattle.lf_base.specs.declared.values.Value.{Value}
-use Rattle.lf_base.specs.FreezeResult.{insert_row}
-use Rattle.lf_base.specs.Names.{same_key}
-use Rattle.lf_base.specs.Owners.{row_at}
+use Rattle.lf_base.specs.Names.{name_below}
 use Rattle.lf_base.specs.PlainState.{Row, State}
-use Rattle.lf_base.specs.WriteResult.{is_at}
 
 -- the slot at a place, counted from 0
 abbrev pub slot_at : List (Option Value) → ℕ → Option Value
@@ -38,6 +31,11 @@ with_slot s w = record s { slots = s.slots ++ w ∷ [] }
 abbrev pub next_object : State → ObjId
 next_object s = record { birth = s.birth; seq = s.objects + 1 }
 
+-- a row put among rows that stand by rising name
+abbrev pub insert_row : Row → List Row → List Row
+insert_row x [] = x ∷ []
+insert_row x (y ∷ ys) = cond (name_below x.name y.name) (x ∷ (y ∷ ys)) (y ∷ insert_row x ys)
+
 -- the state with one more row, without fields
 abbrev pub with_row : State → Owner → State
 with_row s w = record s { objects = s.objects + 1; rows = insert_row (record { name = next_object s; owner = w; fields = [] }) s.rows }
@@ -48,30 +46,3 @@ object_result s = with_row s Local
 
 abbrev pub region_result : State → State
 region_result s = with_row s (In (next_object s))
-
--- the value of a field, where it is there
-abbrev pub field_at : List (Key × Value) → Key → Option Value
-field_at [] k = None
-field_at (f ∷ fs) k = cond (same_key f.0 k) (Some f.1) (field_at fs k)
-
--- the value of a row's field
-abbrev pub row_field : Option Row → Key → Option Value
-row_field None k = None
-row_field (Some r) k = field_at r.fields k
-
--- the fields without k; later ones close up
-abbrev pub drop_field : List (Key × Value) → Key → List (Key × Value)
-drop_field [] k = []
-drop_field (f ∷ fs) k = cond (same_key f.0 k) fs (f ∷ drop_field fs k)
-
--- the field k of x is taken out
-abbrev pub take_result : State → ObjId → Key → State
-take_result s x k = record s { rows = map (λ r. cond (is_at x r) (record r { fields = drop_field r.fields k }) r) s.rows }
-
--- what the taking of a field is refused for: a target without a mutable row is frozen, and else the field must be there
-abbrev pub take_refusal_by : Option Row → Key → Option Fault
-take_refusal_by None k = Some FrozenWrite
-take_refusal_by (Some r) k = cond (is_some (field_at r.fields k)) None (Some NoField)
-
-abbrev pub take_refusal : State → ObjId → Key → Option Fault
-take_refusal s x k = take_refusal_by (row_at s.rows x) k

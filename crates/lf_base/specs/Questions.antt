@@ -5,9 +5,8 @@ use Rattle.lf_base.specs.declared.values.Owner.{Owner}
 use Rattle.lf_base.specs.declared.values.Owner.TheVariants.{Frozen, In, Local}
 use Rattle.lf_base.specs.declared.values.Value.{Value}
 use Rattle.lf_base.specs.declared.values.Value.TheVariants.{Cown, Obj}
-use Rattle.lf_base.specs.MergeResult.{bridge_of}
 use Rattle.lf_base.specs.Names.{targets_of_value}
-use Rattle.lf_base.specs.Owners.{has_row, owner_of}
+use Rattle.lf_base.specs.Owners.{bridge_of, has_row, owner_of}
 use Rattle.lf_base.specs.PlainChanges.{with_slot_at}
 use Rattle.lf_base.specs.PlainState.{State}
 use Rattle.lf_base.specs.WalkCounts.{borrowed, is_open, open_children, refs}

@@ -4,13 +4,16 @@ use Rattle.lf_base.specs.declared.faults.Fault.{Fault}
 use Rattle.lf_base.specs.declared.ids.ObjId.{ObjId}
 use Rattle.lf_base.specs.declared.values.Value.{Value}
 use Rattle.lf_base.specs.declared.values.Value.TheVariants.{Cown, Obj}
+use Rattle.lf_base.specs.Accesses.{after_refusal, store_refusal, store_result}
 use Rattle.lf_base.specs.CloseResult.{close_refusal, close_result}
-use Rattle.lf_base.specs.ContentResult.{made_result, new_cown_refusal, next_cown}
+use Rattle.lf_base.specs.DissolveResult.{dissolve_refusal, dissolve_result}
 use Rattle.lf_base.specs.FreezeResult.{freeze_result}
 use Rattle.lf_base.specs.Kept.{kept}
-use Rattle.lf_base.specs.MergeResult.{bridge_of, dissolve_refusal, dissolve_result, merge_refusal, merge_result}
+use Rattle.lf_base.specs.MergeResult.{merge_refusal, merge_result}
+use Rattle.lf_base.specs.Names.{key_of}
+use Rattle.lf_base.specs.NewCown.{made_result, new_cown_refusal, next_cown}
+use Rattle.lf_base.specs.Owners.{bridge_of}
 use Rattle.lf_base.specs.PlainChanges.{next_object, object_result, region_result, slot_at, with_slot_at}
-use Rattle.lf_base.specs.PlainChecks.{after_refusal, store_refusal, store_result}
 use Rattle.lf_base.specs.PlainState.{State}
 use Rattle.lf_base.specs.Questions.{Standing, borrowed_answer, is_closed_answer, open_children_answer, refs_answer, standing}
 use Rattle.lf_base.specs.declared.values.Value.TheVariants as value
@@ -80,8 +83,8 @@ after_statement s (NewObject x) = refer (object_result s) x (next_object s)
 after_statement s (NewRegion x) = refer (region_result s) x (next_object s)
 after_statement s (Copy x y) = kept (with_slot_at s x (slot_at s.slots y))
 after_statement s (Forget x) = kept (with_slot_at s x None)
-after_statement s (Store x k y) = after_refusal (set_refusal s x k y) s (store_result s (var s x) (text k) (var s y))
-after_statement s (StoreZero x k) = after_refusal (store_refusal s (var s x) (text k) (value.Int (pos 0))) s (store_result s (var s x) (text k) (value.Int (pos 0)))
+after_statement s (Store x k y) = after_refusal (set_refusal s x k y) s (store_result s (var s x) (key_of (text k)) (var s y))
+after_statement s (StoreZero x k) = after_refusal (store_refusal s (var s x) (text k) (value.Int (pos 0))) s (store_result s (var s x) (key_of (text k)) (value.Int (pos 0)))
 after_statement s (Freeze x) = kept (freeze_result s (var s x))
 after_statement s (Merge x y) = after_refusal (merge_refusal s (var s x) (var s y)) s (on_bridge s (bridge_of s (var s x)) (λ a. on_bridge s (bridge_of s (var s y)) (merge_result s a)))
 after_statement s (Dissolve x) = after_refusal (dissolve_refusal s (var s x)) s (on_bridge s (bridge_of s (var s x)) (dissolve_result s))

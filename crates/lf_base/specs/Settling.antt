@@ -1,35 +1,14 @@
--- Suspects: how the rows that must go are found from the places where something was lost.
+-- Settling: dropping what suspects show, until none is left.
 use Rattle.std.specs.Prelude.{Bool, List, Some, [], false, filter, not, true, ◌++◌, ◌∷◌, ◌≡◌}
 use Rattle.lf_base.specs.declared.ids.ObjId.{ObjId}
 use Rattle.lf_base.specs.declared.values.Owner.TheVariants.{In, Local}
-use Rattle.lf_base.specs.Edges.{Edge, Field, edges, rows_edges}
+use Rattle.lf_base.specs.Edges.{Edge, edges}
 use Rattle.lf_base.specs.Kept.{is_owned_by, kept_rows, points, points_into}
 use Rattle.lf_base.specs.Names.{same_name}
 use Rattle.lf_base.specs.Owners.{has_row, owner_in}
 use Rattle.lf_base.specs.PlainState.{State}
 use Rattle.lf_base.specs.Sets.{Member}
-
-pub data Suspect : Type 0 where
-  Object : ObjId → Suspect
-  Region : ObjId → Suspect
-
-pub record MustGo (s : State) (o : ObjId) : Type 0 where
-  pub here : has_row s.rows o ≡ true
-  pub goes : has_row (kept_rows s) o ≡ false
-
--- a field of row p leads to o
-abbrev pub LeadsTo : State → ObjId → ObjId → Type 0
-LeadsTo s p o = Member (record { from = Field p; to = o }) (rows_edges s.rows)
-
--- the row hangs on a suspect; a region counts as one where its bridge must go
-pub data Hangs (s : State) (w : List Suspect) : ObjId → Type 0 where
-  itself : {o : ObjId} → Member (Object o) w → Hangs s w o
-  by_region : (r : ObjId) {o : ObjId} → owner_in s.rows o ≡ Some (In r) → MustGo s r → Member (Region r) w → Hangs s w o
-  by_row : (p : ObjId) {o : ObjId} → LeadsTo s p o → MustGo s p → Hangs s w p → Hangs s w o
-  by_row_into : (p q r : ObjId) {o : ObjId} → owner_in s.rows o ≡ Some (In r) → MustGo s r → owner_in s.rows q ≡ Some (In r) → LeadsTo s p q → MustGo s p → Hangs s w p → Hangs s w o
-
-abbrev pub AllHang : State → List Suspect → Type 0
-AllHang s w = (o : ObjId) → MustGo s o → Hangs s w o
+use Rattle.lf_base.specs.Suspects.{MustGo, Object, Region, Suspect}
 
 -- a region with neither owner nor borrow
 pub record Bare (s : State) (r : ObjId) : Type 0 where

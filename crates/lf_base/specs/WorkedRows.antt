@@ -4,7 +4,7 @@ use Rattle.lf_base.specs.declared.faults.Fault.TheVariants.{Cycle, Interior, Ope
 use Rattle.lf_base.specs.declared.ids.ObjId.{ObjId}
 use Rattle.lf_base.specs.declared.values.Owner.TheVariants.{In}
 use Rattle.lf_base.specs.declared.values.Value.TheVariants.{Obj}
-use Rattle.lf_base.specs.CloseResult.{end_result}
+use Rattle.lf_base.specs.EndResult.{end_result}
 use Rattle.lf_base.specs.MergeResult.{merge_refusal}
 use Rattle.lf_base.specs.Owners.{names}
 use Rattle.lf_base.specs.PlainChanges.{slot_at}

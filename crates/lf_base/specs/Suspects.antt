@@ -1,0 +1,31 @@
+-- Suspects: where something was lost, and the rows that must go which hang on them.
+use Rattle.std.specs.Prelude.{List, Some, false, true, ◌≡◌}
+use Rattle.lf_base.specs.declared.ids.ObjId.{ObjId}
+use Rattle.lf_base.specs.declared.values.Owner.TheVariants.{In}
+use Rattle.lf_base.specs.Edges.{Field, rows_edges}
+use Rattle.lf_base.specs.Kept.{kept_rows}
+use Rattle.lf_base.specs.Owners.{has_row, owner_in}
+use Rattle.lf_base.specs.PlainState.{State}
+use Rattle.lf_base.specs.Sets.{Member}
+
+pub data Suspect : Type 0 where
+  Object : ObjId → Suspect
+  Region : ObjId → Suspect
+
+pub record MustGo (s : State) (o : ObjId) : Type 0 where
+  pub here : has_row s.rows o ≡ true
+  pub goes : has_row (kept_rows s) o ≡ false
+
+-- a field of row p leads to o
+abbrev pub LeadsTo : State → ObjId → ObjId → Type 0
+LeadsTo s p o = Member (record { from = Field p; to = o }) (rows_edges s.rows)
+
+-- the row hangs on a suspect; a region counts as one where its bridge must go
+pub data Hangs (s : State) (w : List Suspect) : ObjId → Type 0 where
+  itself : {o : ObjId} → Member (Object o) w → Hangs s w o
+  by_region : (r : ObjId) {o : ObjId} → owner_in s.rows o ≡ Some (In r) → MustGo s r → Member (Region r) w → Hangs s w o
+  by_row : (p : ObjId) {o : ObjId} → LeadsTo s p o → MustGo s p → Hangs s w p → Hangs s w o
+  by_row_into : (p q r : ObjId) {o : ObjId} → owner_in s.rows o ≡ Some (In r) → MustGo s r → owner_in s.rows q ≡ Some (In r) → LeadsTo s p q → MustGo s p → Hangs s w p → Hangs s w o
+
+abbrev pub AllHang : State → List Suspect → Type 0
+AllHang s w = (o : ObjId) → MustGo s o → Hangs s w o
