@@ -21,10 +21,12 @@ leads_into s r v = list_any (λ o. list_any (λ q. is_in q (owner_in s.rows o)) 
 abbrev pub closed_value : State → ObjId → Value → Value
 closed_value s r v = cond (leads_into s r v) value.None v
 
+-- such a slot holds None then, and an unset one stays unset
 abbrev pub closed_slot : State → ObjId → Option Value → Option Value
 closed_slot s r None = None
 closed_slot s r (Some v) = Some (closed_value s r v)
 
+-- such fields of a local row hold None then, and other rows stay
 abbrev pub closed_fields : State → ObjId → Row → Row
 closed_fields s r row = cond (is_local row.owner) (record row { fields = map (λ f. (f.0, closed_value s r f.1)) row.fields }) row
 
@@ -32,6 +34,7 @@ closed_fields s r row = cond (is_local row.owner) (record row { fields = map (λ
 abbrev pub close_result : State → ℕ → ObjId → State
 close_result s at r = record s { slots = put_slot (map (closed_slot s r) s.slots) at (slot_at s.slots at); rows = map (closed_fields s r) s.rows }
 
+-- by the slot: it must be set, and hold a bridge
 abbrev pub close_refusal_by : State → Option Value → Option Fault
 close_refusal_by s None = Some Unset
 close_refusal_by s (Some v) = cond (is_some (bridge_of s v)) None (Some NotBridge)

@@ -37,6 +37,7 @@ target_fault s o (Some Local) = Some LocalInCown
 target_fault s o (Some (In q)) = cond (same_name q o) (cond (ltb 1 (owning_edges s o)) (Some SecondOwner) None) (Some Interior)
 target_fault s o _ = None
 
+-- the same by what a value refers to: a plain value or a cown is refused for nothing
 abbrev pub targets_fault : State → List ObjId → Option Fault
 targets_fault s [] = None
 targets_fault s (o ∷ os) = target_fault s o (owner_of s o)

@@ -14,6 +14,7 @@ use Rattle.lf_base.specs.PlainState.{State}
 abbrev pub dissolve_result : State → ObjId → State
 dissolve_result s r = record s { rows = relabel_region s.rows r Local }
 
+-- by the bridge: there must be one, and it must have no owner
 abbrev pub dissolve_refusal_by : State → Option ObjId → Option Fault
 dissolve_refusal_by s (Some r) = cond (is_owned s r) (Some Owned) None
 dissolve_refusal_by s None = Some NotBridge

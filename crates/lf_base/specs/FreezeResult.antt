@@ -23,6 +23,7 @@ pub record FreezeClosed (s : State) (v : Value) (rows : List Row) : Type 0 where
   pub first : (y : Row) → Member y s.rows → Member y.name (targets_of_value v) → Member y rows
   pub next : (x y : Row) → Member x rows → Member y s.rows → brings_in x y ≡ true → Member y rows
 
+-- a set of rows put among them
 abbrev pub insert_rows : List Row → List Row → List Row
 insert_rows [] ys = ys
 insert_rows (x ∷ xs) ys = insert_row x (insert_rows xs ys)

@@ -40,6 +40,7 @@ merge_fault s a b =
     (cond (is_owned_elsewhere s a b) (Some Owned)
     (cond (has_name (below s b) a && not (owns s b a)) (Some Cycle) None))
 
+-- by the two bridges: both must be there
 abbrev pub merge_refusal_by : State → Option ObjId → Option ObjId → Option Fault
 merge_refusal_by s (Some a) (Some b) = merge_fault s a b
 merge_refusal_by s _ _ = Some NotBridge

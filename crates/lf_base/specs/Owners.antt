@@ -67,5 +67,6 @@ abbrev pub first_bridge : State → List ObjId → Option ObjId
 first_bridge s [] = None
 first_bridge s (o ∷ os) = cond (is_bridge s.rows o) (Some o) None
 
+-- the bridge that a value refers to, where it refers to one
 abbrev pub bridge_of : State → Value → Option ObjId
 bridge_of s v = first_bridge s (targets_of_value v)

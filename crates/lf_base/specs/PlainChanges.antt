@@ -44,5 +44,6 @@ with_row s w = record s { objects = s.objects + 1; rows = insert_row (record { n
 abbrev pub object_result : State → State
 object_result s = with_row s Local
 
+-- a new region, of its bridge alone
 abbrev pub region_result : State → State
 region_result s = with_row s (In (next_object s))

@@ -12,6 +12,7 @@ pub record Row : Type 0 where
   pub owner : Owner
   pub fields : List (Key × Value)
 
+-- the state of one behaviour
 pub record State : Type 0 where
   -- the behaviour's number, which is the birth of what it makes
   pub birth : ℕ

@@ -100,21 +100,26 @@ after_script s (a ∷ rest) = after_script (after_statement s a) rest
 abbrev pub empty_state : State
 empty_state = record { birth = 0; objects = 0; cowns = 0; rows = []; slots = None ∷ None ∷ None ∷ None ∷ []; held = []; made = []; given = []; own = [] }
 
+-- the state after a script on the empty state
 abbrev pub script : List Statement → State
 script statements = after_script empty_state statements
 
--- the questions on variable x
+-- refs(x)
 abbrev pub ask_refs : State → ℕ → Option ℕ
 ask_refs s x = refs_answer s (var s x)
 
+-- borrowed(x)
 abbrev pub ask_borrowed : State → ℕ → Option ℕ
 ask_borrowed s x = borrowed_answer s (var s x)
 
+-- open_children(x)
 abbrev pub ask_open_children : State → ℕ → Option ℕ
 ask_open_children s x = open_children_answer s (var s x)
 
+-- owner(x)
 abbrev pub ask_owner : State → ℕ → Standing
 ask_owner s x = standing s (var s x)
 
+-- is_closed(x)
 abbrev pub ask_is_closed : State → ℕ → Option Bool
 ask_is_closed s x = is_closed_answer s x (var s x)

@@ -8,10 +8,12 @@ use Rattle.lf_base.specs.Owners.{has_row, owner_in}
 use Rattle.lf_base.specs.PlainState.{State}
 use Rattle.lf_base.specs.Sets.{Member}
 
+-- a place where something was lost: an object that an edge no longer names, or a region that an owner or a borrow no longer reaches
 pub data Suspect : Type 0 where
   Object : ObjId → Suspect
   Region : ObjId → Suspect
 
+-- the name has a row, and not among those that stay
 pub record MustGo (s : State) (o : ObjId) : Type 0 where
   pub here : has_row s.rows o ≡ true
   pub goes : has_row (kept_rows s) o ≡ false
@@ -20,12 +22,13 @@ pub record MustGo (s : State) (o : ObjId) : Type 0 where
 abbrev pub LeadsTo : State → ObjId → ObjId → Type 0
 LeadsTo s p o = Member (record { from = Field p; to = o }) (rows_edges s.rows)
 
--- the row hangs on a suspect; a region counts as one where its bridge must go
+-- the row hangs on a suspect: it is one; or its region, whose bridge must go, is one; or a row leads to it that must go and hangs on one; or such a row leads into its region, whose bridge must go
 pub data Hangs (s : State) (w : List Suspect) : ObjId → Type 0 where
   itself : {o : ObjId} → Member (Object o) w → Hangs s w o
   by_region : (r : ObjId) {o : ObjId} → owner_in s.rows o ≡ Some (In r) → MustGo s r → Member (Region r) w → Hangs s w o
   by_row : (p : ObjId) {o : ObjId} → LeadsTo s p o → MustGo s p → Hangs s w p → Hangs s w o
   by_row_into : (p q r : ObjId) {o : ObjId} → owner_in s.rows o ≡ Some (In r) → MustGo s r → owner_in s.rows q ≡ Some (In r) → LeadsTo s p q → MustGo s p → Hangs s w p → Hangs s w o
 
+-- each row that must go hangs on a suspect
 abbrev pub AllHang : State → List Suspect → Type 0
 AllHang s w = (o : ObjId) → MustGo s o → Hangs s w o

@@ -35,5 +35,6 @@ abbrev pub take_refusal_by : Option Row → Key → Option Fault
 take_refusal_by None k = Some FrozenWrite
 take_refusal_by (Some r) k = cond (is_some (field_at r.fields k)) None (Some NoField)
 
+-- what the taking of field k of x is refused for
 abbrev pub take_refusal : State → ObjId → Key → Option Fault
 take_refusal s x k = take_refusal_by (row_at s.rows x) k

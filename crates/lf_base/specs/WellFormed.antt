@@ -56,16 +56,19 @@ Leads s = (e : Edge) → Member e (edges s) → may_lead s e.from e.to ≡ true
 abbrev pub all_names : State → List ObjId
 all_names s = names s.rows ++ (names s.given ++ names s.own)
 
--- all values that slots, fields and contents hold
+-- the values that set slots hold
 abbrev pub slot_values : List (Option Value) → List Value
 slot_values slots = flat_map option_to_list slots
 
+-- those in fields
 abbrev pub field_values : List Row → List Value
 field_values rows = flat_map (λ r. map (λ f. f.1) r.fields) rows
 
+-- those in contents
 abbrev pub content_values : List (CownId × Value) → List Value
 content_values cs = map (λ c. c.1) cs
 
+-- those of the whole state
 abbrev pub all_values : State → List Value
 all_values s = slot_values s.slots ++ (field_values s.rows ++ (content_values s.held ++ (content_values s.made ++ (field_values s.given ++ field_values s.own))))
 
@@ -81,6 +84,7 @@ all_cowns s = own_cowns s ++ flat_map cowns_of_value (all_values s)
 abbrev pub IsNumber : ℕ → ℕ → Type 0
 IsNumber n made = (0 < n) × (n ≤ made)
 
+-- the state is well-formed
 pub record WellFormed (s : State) : Type 0 where
   -- the rows stand by rising name, and all names differ
   pub rows_rise : InOrder name_below (names s.rows)

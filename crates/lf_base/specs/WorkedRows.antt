@@ -92,10 +92,11 @@ open_by_cycle = script (NewRegion 0 ∷ NewObject 1 ∷ NewObject 2 ∷ Store 1 
 abbrev pub LivingCycleShows : Type 0
 LivingCycleShows = ask_borrowed open_by_cycle 0 ≡ Some 2
 
--- then c = Cown(move r) is refused, and isn't after close(r); at the end the cown holds a region of one row
+-- close(r); c = Cown(move r)
 abbrev pub closed_cown : State
 closed_cown = after_script open_by_cycle (Close 0 ∷ Guard 3 0 ∷ [])
 
+-- c = Cown(move r) is refused, and isn't after close(r); at the end the cown holds a region of one row
 abbrev pub OpenCownShows : Type 0
 OpenCownShows =
     (guard_refusal open_by_cycle 0 ≡ Some Open)
@@ -161,6 +162,7 @@ FreezeRegionShows =
 abbrev pub dissolves : State
 dissolves = script (NewRegion 0 ∷ NewObject 1 ∷ Store 0 5 1 ∷ Dissolve 0 ∷ [])
 
+-- bridge and inner row are local
 abbrev pub DissolvesShow : Type 0
 DissolvesShow = (ask_owner dissolves 0 ≡ LocalObject) × (ask_owner dissolves 1 ≡ LocalObject) × (ask_refs dissolves 1 ≡ Some 2)
 
