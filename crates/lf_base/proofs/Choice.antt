@@ -7,8 +7,8 @@ use Rattle.lf_base.specs.Kept.{is_owned_by, kept_rows, points, points_into, stay
 use Rattle.lf_base.specs.Names.{same_name}
 use Rattle.lf_base.specs.Owners.{has_row, is_in, owner_in}
 use Rattle.lf_base.specs.PlainState.{State}
-use Rattle.lf_base.specs.Settling.{Bare, CanGo, Idle, Spent, Watched}
-use Rattle.lf_base.specs.Suspects.{Object, Region, Suspect}
+use Rattle.lf_base.specs.Settling.{CanGo, Idle, Spent, Watched}
+use Rattle.lf_base.specs.Suspects.{Bare, Object, Region, Suspect}
 use Rattle.lf_base.proofs.Dropped.{in_region}
 use Rattle.lf_base.proofs.Goes.{inner_goes, into_zero, local_goes, of_region, owned_zero, points_zero, region_goes}
 use Rattle.lf_base.proofs.Lookup.{in_is, kept_stays, no_both, owner_has, owner_is}

@@ -190,7 +190,7 @@ more_meets s x y rows a b m z (inr (inl e)) = subst (λ w. stays s (x ∷ (y ∷
 more_meets s x y rows a b m z (inr (inr k)) = stays_more s rows (x ∷ (y ∷ rows)) z (λ w n. inr (inr n)) (m z k)
 
 -- a row of region r to which a slot or kept local row points stays
-leans : (s : State) (b : Bridged s) (r : ObjId) (e : Edge) → Member e (slot_edges s.slots ++ rows_edges (kept_rows s)) → is_borrower s.rows e.from ≡ true → owner_in s.rows e.to ≡ Some (In r) → has_row (kept_rows s) e.to ≡ true
+pub leans : (s : State) (b : Bridged s) (r : ObjId) (e : Edge) → Member e (slot_edges s.slots ++ rows_edges (kept_rows s)) → is_borrower s.rows e.from ≡ true → owner_in s.rows e.to ≡ Some (In r) → has_row (kept_rows s) e.to ≡ true
 leans s b r e m near inside =
     let bridge = row_of s.rows r (In r) (b.bridge e.to r inside) in
     let row = row_of s.rows e.to (In r) inside in

@@ -14,8 +14,8 @@ use Rattle.lf_base.specs.Owners.{has_row, is_in, is_local_at, or_frozen, owner_i
 use Rattle.lf_base.specs.Ownership.{is_in_other, is_owning, owning_edges}
 use Rattle.lf_base.specs.PlainState.{Row, State}
 use Rattle.lf_base.specs.Sets.{Member}
-use Rattle.lf_base.specs.Settling.{Bare, CanGo, without}
-use Rattle.lf_base.specs.Suspects.{MustGo}
+use Rattle.lf_base.specs.Settling.{CanGo, without}
+use Rattle.lf_base.specs.Suspects.{Bare, MustGo}
 use Rattle.lf_base.specs.WalkCounts.{borrowed, borrows, is_borrower, refs}
 use Rattle.lf_base.specs.WellFormed.{from_content, from_frozen, from_row, may_lead}
 use Rattle.lf_base.proofs.Dropped.{and_join, and_parts, in_region, mem_has}

@@ -11,8 +11,7 @@ use Rattle.lf_base.specs.Owners.{bridges, has_name, has_row, is_bridge, is_in, o
 use Rattle.lf_base.specs.Ownership.{is_from, is_owning, owns, round}
 use Rattle.lf_base.specs.PlainState.{Row, State}
 use Rattle.lf_base.specs.Sets.{Member, grow, least}
-use Rattle.lf_base.specs.Settling.{Bare}
-use Rattle.lf_base.specs.Suspects.{AllHang, Hangs, LeadsTo, MustGo, Object, Region, Suspect, by_region, by_row, by_row_into, itself}
+use Rattle.lf_base.specs.Suspects.{AllHang, Bare, Hangs, LeadsTo, MustGo, Object, Region, Suspect, Suspected, by_region, by_row, by_row_into, itself}
 use Rattle.lf_base.specs.WalkCounts.{is_borrower}
 use Rattle.lf_base.specs.WellFormed.{from_row}
 use Rattle.lf_base.proofs.Choice.{goes}
@@ -45,12 +44,6 @@ object_is (Region p) o e = cc
 region_is : (u : Suspect) (o : ObjId) → is_region u o ≡ true → u ≡ Region o
 region_is (Region p) o e = ap Region (same_name_is p o e)
 region_is (Object p) o e = cc
-
--- each bare unit is itself a suspect
-pub record Listed (s : State) (w : List Suspect) : Type 0 where
-  pub locals : (o : ObjId) → owner_in s.rows o ≡ Some Local → points s.rows s o ≡ false → Member (Object o) w
-  pub regions : (r : ObjId) → owner_in s.rows r ≡ Some (In r) → Bare s r → Member (Region r) w
-  pub inners : (o r : ObjId) → owner_in s.rows o ≡ Some (In r) → same_name r o ≡ false → has_row (kept_rows s) r ≡ true → points s.rows s o ≡ false → Member (Object o) w
 
 module _ (s : State) (g : Setting s) (w : List Suspect) where
   abbrev kept_has_name : ObjId → Bool
@@ -148,7 +141,7 @@ module _ (s : State) (g : Setting s) (w : List Suspect) where
   hung_hangs = least_all joins s.rows Hung hung_step (length s.rows) [] (λ y m. absurd m)
 
   -- ---- each row stays or is hung
-  module _ (l : Listed s w) where
+  module _ (l : Suspected s w) where
     abbrev Left : Row → Type 0
     Left x = (kept_has_name x.name ≡ false) × (has_row hung x.name ≡ false)
 
@@ -380,8 +373,8 @@ module _ (s : State) (g : Setting s) (w : List Suspect) where
           ]) x (inl refl))) h.0
 
       -- each row that must go hangs on a suspect
-      pub listed_hang : AllHang s w
-      listed_hang o must =
+      pub suspected_hang : AllHang s w
+      suspected_hang o must =
           let t = named s.rows o must.here in
           by_either (has_row hung o)
           (λ e. let x = named hung o e in subst (Hangs s w) x.1.1 (hung_hangs x.0 x.1.0).hangs)

@@ -7,7 +7,9 @@ pub mod Dropped
 pub mod FurtherSlot
 pub mod Goes
 pub mod Hanging
+pub mod KeptWhole
 pub mod Least
+pub mod LeftWhole
 pub mod LocalWrite
 pub mod Lookup
 pub mod Members
@@ -21,6 +23,7 @@ pub mod Relabel
 pub mod Sets
 pub mod Setting
 pub mod Stays
+pub mod Sublists
 pub mod Watch
 pub mod Without
 pub mod WriteLaw

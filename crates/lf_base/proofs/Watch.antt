@@ -11,8 +11,8 @@ use Rattle.lf_base.specs.Owners.{bridges, has_row, is_bridge, is_in, is_local_at
 use Rattle.lf_base.specs.Ownership.{is_from, is_in_other, is_owning, owns, round}
 use Rattle.lf_base.specs.PlainState.{Row, State}
 use Rattle.lf_base.specs.Sets.{Member}
-use Rattle.lf_base.specs.Settling.{Bare, Watched, WatchedBy}
-use Rattle.lf_base.specs.Suspects.{AllHang, Hangs, LeadsTo, MustGo, Object, Region, Suspect, by_region, by_row, by_row_into, itself}
+use Rattle.lf_base.specs.Settling.{Watched, WatchedBy}
+use Rattle.lf_base.specs.Suspects.{AllHang, Bare, Hangs, LeadsTo, MustGo, Object, Region, Suspect, by_region, by_row, by_row_into, itself}
 use Rattle.lf_base.specs.WalkCounts.{is_borrower}
 use Rattle.lf_base.specs.WellFormed.{Leads, from_row}
 use Rattle.lf_base.proofs.Counts.{Distinct}

@@ -11,8 +11,8 @@ use Rattle.lf_base.specs.Owners.{bridges, has_row, is_bridge, is_in, is_local_at
 use Rattle.lf_base.specs.Ownership.{is_from, is_in_other, is_owning, owns, round}
 use Rattle.lf_base.specs.PlainState.{Row, State}
 use Rattle.lf_base.specs.Sets.{Member}
-use Rattle.lf_base.specs.Settling.{Bare, CanGo, Idle, Renewed, Run, Spent, Watched, WatchedBy, Watches, drop, finish, forget, without}
-use Rattle.lf_base.specs.Suspects.{AllHang, Object, Region, Suspect}
+use Rattle.lf_base.specs.Settling.{CanGo, Idle, Renewed, Run, Spent, Watched, WatchedBy, Watches, drop, finish, forget, without}
+use Rattle.lf_base.specs.Suspects.{AllHang, Bare, Object, Region, Suspect}
 use Rattle.lf_base.specs.WalkCounts.{is_borrower}
 use Rattle.lf_base.specs.WellFormed.{from_content, from_near, from_row, may_lead}
 use Rattle.lf_base.proofs.Counts.{Distinct}

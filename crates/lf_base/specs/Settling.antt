@@ -3,17 +3,12 @@ use Rattle.std.specs.Prelude.{Bool, List, Some, [], false, filter, not, true, �
 use Rattle.lf_base.specs.declared.ids.ObjId.{ObjId}
 use Rattle.lf_base.specs.declared.values.Owner.TheVariants.{In, Local}
 use Rattle.lf_base.specs.Edges.{Edge, edges}
-use Rattle.lf_base.specs.Kept.{is_owned_by, kept_rows, points, points_into}
+use Rattle.lf_base.specs.Kept.{kept_rows, points}
 use Rattle.lf_base.specs.Names.{same_name}
 use Rattle.lf_base.specs.Owners.{has_row, owner_in}
 use Rattle.lf_base.specs.PlainState.{State}
 use Rattle.lf_base.specs.Sets.{Member}
-use Rattle.lf_base.specs.Suspects.{MustGo, Object, Region, Suspect}
-
--- a region with neither owner nor borrow
-pub record Bare (s : State) (r : ObjId) : Type 0 where
-  pub unowned : is_owned_by s.rows s r ≡ false
-  pub unborrowed : points_into s.rows s r ≡ false
+use Rattle.lf_base.specs.Suspects.{Bare, MustGo, Object, Region, Suspect}
 
 -- the suspect is the region, or a row of it
 abbrev pub Watches : State → ObjId → Suspect → Type 0

@@ -1,9 +1,10 @@
 -- Suspects: where something was lost, and the rows that must go which hang on them.
 use Rattle.std.specs.Prelude.{List, Some, false, true, ◌≡◌}
 use Rattle.lf_base.specs.declared.ids.ObjId.{ObjId}
-use Rattle.lf_base.specs.declared.values.Owner.TheVariants.{In}
+use Rattle.lf_base.specs.declared.values.Owner.TheVariants.{In, Local}
 use Rattle.lf_base.specs.Edges.{Field, rows_edges}
-use Rattle.lf_base.specs.Kept.{kept_rows}
+use Rattle.lf_base.specs.Kept.{is_owned_by, kept_rows, points, points_into}
+use Rattle.lf_base.specs.Names.{same_name}
 use Rattle.lf_base.specs.Owners.{has_row, owner_in}
 use Rattle.lf_base.specs.PlainState.{State}
 use Rattle.lf_base.specs.Sets.{Member}
@@ -32,3 +33,14 @@ pub data Hangs (s : State) (w : List Suspect) : ObjId → Type 0 where
 -- each row that must go hangs on a suspect
 abbrev pub AllHang : State → List Suspect → Type 0
 AllHang s w = (o : ObjId) → MustGo s o → Hangs s w o
+
+-- a region with neither owner nor borrow
+pub record Bare (s : State) (r : ObjId) : Type 0 where
+  pub unowned : is_owned_by s.rows s r ≡ false
+  pub unborrowed : points_into s.rows s r ≡ false
+
+-- whatever nothing justifies is itself a suspect: a local row without an edge, a region without owner and borrow, an inner row without an edge whose bridge stays
+pub record Suspected (s : State) (w : List Suspect) : Type 0 where
+  pub locals : (o : ObjId) → owner_in s.rows o ≡ Some Local → points s.rows s o ≡ false → Member (Object o) w
+  pub regions : (r : ObjId) → owner_in s.rows r ≡ Some (In r) → Bare s r → Member (Region r) w
+  pub inners : (o r : ObjId) → owner_in s.rows o ≡ Some (In r) → same_name r o ≡ false → has_row (kept_rows s) r ≡ true → points s.rows s o ≡ false → Member (Object o) w

@@ -1,7 +1,7 @@
 //! What was proved of the definitions of ownership, counts and dropping. Each
 //! function has an empty body; its clauses are the law.
 
-ghost use Rattle.std.specs.Prelude.{◌≡◌, ◌<◌, ◌↔◌, ◌⊎◌, ℕ, [], List, None, Some, true};
+ghost use Rattle.std.specs.Prelude.{◌≡◌, ◌<◌, ◌↔◌, ◌⊎◌, ◌∷◌, ◌++◌, [], Bool, List, None, Some, true};
 ghost use Rattle.lf_base.specs.declared.ids.CownId.{CownId};
 ghost use Rattle.lf_base.specs.declared.ids.ObjId.{ObjId};
 ghost use Rattle.lf_base.specs.declared.values.Key.{Key};
@@ -15,9 +15,9 @@ ghost use Rattle.lf_base.specs.Owners.{has_row};
 ghost use Rattle.lf_base.specs.Ownership.{Above, NoRound, below, round};
 ghost use Rattle.lf_base.specs.PlainChanges.{with_slot};
 ghost use Rattle.lf_base.specs.PlainState.{Row, State};
-ghost use Rattle.lf_base.specs.Settling.{Run};
+ghost use Rattle.lf_base.specs.Settling.{CanGo, Idle, Renewed, Run, Spent, Watched, without};
 ghost use Rattle.lf_base.specs.Sets.{Member};
-ghost use Rattle.lf_base.specs.Suspects.{AllHang, Suspect};
+ghost use Rattle.lf_base.specs.Suspects.{AllHang, Suspect, Suspected};
 ghost use Rattle.lf_base.specs.WalkCounts.{borrowed, is_open};
 ghost use Rattle.lf_base.specs.WellFormed.{SlotMayHold, WellFormed};
 ghost use Rattle.lf_base.specs.WriteResult.{write_refusal, write_result};
@@ -76,6 +76,33 @@ pub fn write_law()
 pub fn content_law()
     ensures held { (s : State) (c : CownId) (v : Value) → WellFormed s → has_cown s.held c ≡ true → SlotMayHold s v → (content_refusal s c v ≡ None) ↔ WellFormed (content_result s c v) }
     ensures made { (s : State) (v : Value) → WellFormed s → SlotMayHold s v → (content_fault (made_result s v) v ≡ None) ↔ WellFormed (made_result s v) }
+{}
+
+/// The rows that stay of a well-formed state make a well-formed state.
+pub fn kept_is_well_formed()
+    ensures { (s : State) → WellFormed s → WellFormed (kept s) }
+{}
+
+/// Where whatever nothing justifies is itself a suspect, each row that must go
+/// hangs on a suspect.
+pub fn suspects_suffice()
+    ensures { (s : State) (w : List Suspect) → WellFormed s → Suspected s w → AllHang s w }
+{}
+
+/// One step of settling after the other: where each row that must go hangs on a
+/// suspect, whatever nothing justifies is watched by a suspect. A suspect has a
+/// justification or goes with rows that can go. One that has a justification may
+/// be forgotten. A drop of rows that can go leaves a well-formed state, with the
+/// same rows to stay, and whatever nothing justifies is watched again. Where no
+/// suspect is left, all rows stay.
+pub fn settling_steps()
+    ensures watched { (s : State) (w : List Suspect) → WellFormed s → AllHang s w → Watched s w }
+    ensures decided { (s : State) (u : Suspect) → WellFormed s → Idle s u ⊎ ((gone : ObjId → Bool) × (CanGo s gone × Spent gone u)) }
+    ensures forgotten { (s : State) (u : Suspect) (w : List Suspect) → Idle s u → Watched s (u ∷ w) → Watched s w }
+    ensures well_formed { (s : State) (gone : ObjId → Bool) → WellFormed s → CanGo s gone → WellFormed (without s gone) }
+    ensures stays_same { (s : State) (gone : ObjId → Bool) → WellFormed s → CanGo s gone → kept_rows (without s gone) ≡ kept_rows s }
+    ensures watched_again { (s : State) (gone : ObjId → Bool) (u : Suspect) (new w : List Suspect) → WellFormed s → CanGo s gone → Spent gone u → Renewed s gone new → Watched s (u ∷ w) → Watched (without s gone) (new ++ w) }
+    ensures all_stay { (s : State) → WellFormed s → Watched s [] → kept_rows s ≡ s.rows }
 {}
 
 /// Where each row that must go hangs on a suspect, a run over the suspects leaves
