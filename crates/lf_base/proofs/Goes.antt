@@ -67,7 +67,7 @@ pub data Begins (s : State) (e : Edge) : Type 0 where
 content_begins : (cs : List (CownId × Value)) (e : Edge) → Member e (content_edges cs) → (c : CownId) × (e.from ≡ Content c)
 content_begins cs e m = let t = Member_of_flat_map _ e cs m in let o = Member_of_map _ e _ t.1.1 in ((t.0).0, ap (λ (d : Edge). d.from) (sym o.1.1))
 
-slot_begins : (slots : List (Option Value)) (e : Edge) → Member e (slot_edges slots) → e.from ≡ Slot
+pub slot_begins : (slots : List (Option Value)) (e : Edge) → Member e (slot_edges slots) → e.from ≡ Slot
 slot_begins slots e m = let t = Member_of_flat_map _ e slots m in let o = Member_of_map _ e _ t.1.1 in ap (λ (d : Edge). d.from) (sym o.1.1)
 
 pub begins : (s : State) (e : Edge) → Member e (edges s) → Begins s e

@@ -4,6 +4,7 @@ pub mod ContentLaw
 pub mod Counts
 pub mod CownNames
 pub mod Dropped
+pub mod FewerFields
 pub mod FurtherSlot
 pub mod Goes
 pub mod Hanging
@@ -20,6 +21,7 @@ pub mod OwnersGoRound
 pub mod Owning
 pub mod Paths
 pub mod Relabel
+pub mod SameOwners
 pub mod Sets
 pub mod Setting
 pub mod Stays

@@ -28,7 +28,7 @@ use Rattle.lf_base.proofs.Relabel.{owner_over, owner_relabel}
 use Rattle.lf_base.proofs.Sets.{Member_filter, Member_left, Member_of_append, Member_of_filter, Member_right}
 use Rattle.lf_base.proofs.Watch.{false_by, field_is, or_split, other_is}
 
-lead_near : (a : Option Owner) (t : ObjId) (b : Option Owner) → from_row a t b ≡ true → from_near b ≡ true
+pub lead_near : (a : Option Owner) (t : ObjId) (b : Option Owner) → from_row a t b ≡ true → from_near b ≡ true
 lead_near a t (Some w) e = refl
 lead_near None t None e = e
 lead_near (Some Local) t None e = e

@@ -62,7 +62,7 @@ or_frozen false None = None
 abbrev pub owner_of : State → ObjId → Option Owner
 owner_of s o = or_frozen (has_row s.given o || has_row s.own o) (owner_in s.rows o)
 
--- the bridge that a value is, where it is one
+-- the first object, where it is a bridge
 abbrev pub first_bridge : State → List ObjId → Option ObjId
 first_bridge s [] = None
 first_bridge s (o ∷ os) = cond (is_bridge s.rows o) (Some o) None

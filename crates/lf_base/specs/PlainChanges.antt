@@ -23,6 +23,10 @@ put_slot (x ∷ xs) (suc n) w = x ∷ put_slot xs n w
 abbrev pub with_slot_at : State → ℕ → Option Value → State
 with_slot_at s n w = record s { slots = put_slot s.slots n w }
 
+-- the state with other slots
+abbrev pub with_slots : State → List (Option Value) → State
+with_slots s slots = record s { slots = slots }
+
 -- the state with one slot more
 abbrev pub with_slot : State → Option Value → State
 with_slot s w = record s { slots = s.slots ++ w ∷ [] }
