@@ -127,7 +127,7 @@ module _ (s : State) (t : WellFormed s) where
   frozen_only Local e = cc
   frozen_only (In r) e = cc
 
-  frozen_leads_on : (e : Edge) (x : Row) → (has_row s.given x.name || has_row s.own x.name) ≡ true → e.from ≡ Field x.name → Member e (edges s) → (w : Owner) → owner_in s.rows e.to ≡ Some w → ⊥
+  pub frozen_leads_on : (e : Edge) (x : Row) → (has_row s.given x.name || has_row s.own x.name) ≡ true → e.from ≡ Field x.name → Member e (edges s) → (w : Owner) → owner_in s.rows e.to ≡ Some w → ⊥
   frozen_leads_on e x n f m w h =
       let own : owner_of s x.name ≡ Some Frozen = (λ i. or_frozen (n i) (g.apart x.name n i)) in
       let l : from_frozen (Some w) ≡ true = (λ i. from_row (sym own i) e.to (or_frozen (has_row s.given e.to || has_row s.own e.to) (sym h i))) ∙ ap (λ z. may_lead s z e.to) (sym f) ∙ t.leads e m in

@@ -4,6 +4,7 @@ pub mod ContentLaw
 pub mod Counts
 pub mod CownNames
 pub mod Dropped
+pub mod EndWhole
 pub mod FewerFields
 pub mod FurtherSlot
 pub mod Goes

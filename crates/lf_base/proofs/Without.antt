@@ -41,7 +41,7 @@ owner_lost (r ∷ rs) gone o h =
       | false ↦ λ e. ap (λ c. row_owner (cond c (Some r) (row_at (filter (λ q. not (gone q.name)) rs) o))) (false_by (same_name r.name o) (λ k. no_both _ h (ap gone (sym (same_name_is r.name o k)) ∙ e))) ∙ owner_lost rs gone o h
     ] refl
 
-some_none : {X : Type 0} (v : X) → None ≡ Some v → ⊥
+pub some_none : {X : Type 0} (v : X) → None ≡ Some v → ⊥
 some_none v e = cc
 
 -- what has an owner still isn't gone
