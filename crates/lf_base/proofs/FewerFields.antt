@@ -53,9 +53,9 @@ module _ (f : Row → Row) (c : Trims f) where
   trimmed_owner (r ∷ rs) o =
       ap (λ n. row_owner (cond (same_name n o) (Some (f r)) (row_at (map f rs) o))) (c.name r)
       ∙ elim (same_name r.name o) as (λ b. row_owner (cond b (Some (f r)) (row_at (map f rs) o)) ≡ row_owner (cond b (Some r) (row_at rs o))) [
-          | true ↦ ap Some (c.owner r)
-          | false ↦ trimmed_owner rs o
-        ]
+        | true ↦ ap Some (c.owner r)
+        | false ↦ trimmed_owner rs o
+      ]
 
   trimmed_row : (r : Row) → Sub (row_edges (f r)) (row_edges r)
   trimmed_row r = subst (λ n. Sub (edges_by (Field n) (field_targets (f r).fields)) (row_edges r)) (sym (c.name r)) (sub_map (λ (o : ObjId). record { from = Field r.name; to = o }) (c.less r))
@@ -67,9 +67,9 @@ module _ (f : Row → Row) (c : Trims f) where
   trimmed_values : (rows : List Row) (w : Value) → Member w (field_values (map f rows)) → Member w (field_values rows) ⊎ NamesNothing w
   trimmed_values [] w m = absurd m
   trimmed_values (r ∷ rs) w m = elim (Member_of_append w (row_values (f r)) (field_values (map f rs)) m) [
-      | inl h ↦ elim (c.values r w h) [ inl k ↦ inl (Member_left w (row_values r) (field_values rs) k) | inr k ↦ inr k ]
-      | inr h ↦ elim (trimmed_values rs w h) [ inl k ↦ inl (Member_right w (row_values r) (field_values rs) k) | inr k ↦ inr k ]
-    ]
+    | inl h ↦ elim (c.values r w h) [ inl k ↦ inl (Member_left w (row_values r) (field_values rs) k) | inr k ↦ inr k ]
+    | inr h ↦ elim (trimmed_values rs w h) [ inl k ↦ inl (Member_right w (row_values r) (field_values rs) k) | inr k ↦ inr k ]
+  ]
 
   module _ (s : State) (slots : List (Option Value)) (t : WellFormed s) (old : (v : Value) → Member (Some v) slots → Member (Some v) s.slots ⊎ NamesNothing v) where
     abbrev rows : List Row
@@ -96,9 +96,9 @@ module _ (f : Row → Row) (c : Trims f) where
 
     edge_old : (e : Edge) → Member e (edges (with_both s slots rows)) → Member e (edges s)
     edge_old e m = elim (Member_of_append e (slot_edges slots) (rows_edges rows ++ rest) m) [
-        | inl h ↦ Member_left e (slot_edges s.slots) (rows_edges s.rows ++ rest) (slot_edge_old e h)
-        | inr h ↦ Member_right e (slot_edges s.slots) (rows_edges s.rows ++ rest) (sub_within (sub_append (trimmed_edges s.rows) (sub_all rest)) e h)
-      ]
+      | inl h ↦ Member_left e (slot_edges s.slots) (rows_edges s.rows ++ rest) (slot_edge_old e h)
+      | inr h ↦ Member_right e (slot_edges s.slots) (rows_edges s.rows ++ rest) (sub_within (sub_append (trimmed_edges s.rows) (sub_all rest)) e h)
+    ]
 
     slot_value_old : (v : Value) → Member v (slot_values slots) → Member v (slot_values s.slots) ⊎ NamesNothing v
     slot_value_old v m =
@@ -111,25 +111,25 @@ module _ (f : Row → Row) (c : Trims f) where
 
     value_old : (v : Value) → Member v (all_values (with_both s slots rows)) → Member v (all_values s) ⊎ NamesNothing v
     value_old v m = elim (Member_of_append v (slot_values slots) (field_values rows ++ rest_values) m) [
-        | inl h ↦ elim (slot_value_old v h) [ inl k ↦ inl (Member_left v (slot_values s.slots) _ k) | inr k ↦ inr k ]
-        | inr h ↦ elim (Member_of_append v (field_values rows) rest_values h) [
-            | inl k ↦ elim (trimmed_values s.rows v k) [ inl j ↦ inl (Member_right v (slot_values s.slots) _ (Member_left v (field_values s.rows) rest_values j)) | inr j ↦ inr j ]
-            | inr k ↦ inl (Member_right v (slot_values s.slots) _ (Member_right v (field_values s.rows) rest_values k))
-          ]
+      | inl h ↦ elim (slot_value_old v h) [ inl k ↦ inl (Member_left v (slot_values s.slots) _ k) | inr k ↦ inr k ]
+      | inr h ↦ elim (Member_of_append v (field_values rows) rest_values h) [
+        | inl k ↦ elim (trimmed_values s.rows v k) [ inl j ↦ inl (Member_right v (slot_values s.slots) _ (Member_left v (field_values s.rows) rest_values j)) | inr j ↦ inr j ]
+        | inr k ↦ inl (Member_right v (slot_values s.slots) _ (Member_right v (field_values s.rows) rest_values k))
       ]
+    ]
 
     no_cown : (c : CownId) (v : Value) → NamesNothing v → Member c (cowns_of_value v) → ⊥
     no_cown c v n m = subst (Member c) n.1 m
 
     cown_old : (c : CownId) → Member c (all_cowns (with_both s slots rows)) → Member c (all_cowns s)
     cown_old c m = elim (Member_of_append c (own_cowns s) (flat_map cowns_of_value (all_values (with_both s slots rows))) m) [
-        | inl h ↦ Member_left c (own_cowns s) (flat_map cowns_of_value (all_values s)) h
-        | inr h ↦ let v = Member_of_flat_map cowns_of_value c (all_values (with_both s slots rows)) h in
-            elim (value_old v.0 v.1.0) [
-              | inl k ↦ Member_right c (own_cowns s) (flat_map cowns_of_value (all_values s)) (Member_flat_map cowns_of_value v.0 c (all_values s) k v.1.1)
-              | inr k ↦ absurd (no_cown c v.0 k v.1.1)
-            ]
-      ]
+      | inl h ↦ Member_left c (own_cowns s) (flat_map cowns_of_value (all_values s)) h
+      | inr h ↦ let v = Member_of_flat_map cowns_of_value c (all_values (with_both s slots rows)) h in
+          elim (value_old v.0 v.1.0) [
+            | inl k ↦ Member_right c (own_cowns s) (flat_map cowns_of_value (all_values s)) (Member_flat_map cowns_of_value v.0 c (all_values s) k v.1.1)
+            | inr k ↦ absurd (no_cown c v.0 k v.1.1)
+          ]
+    ]
 
     owning_same : (g : Source) (r : ObjId) → is_owning rows g r ≡ true → is_owning s.rows g r ≡ true
     owning_same Slot r e = e
@@ -140,9 +140,14 @@ module _ (f : Row → Row) (c : Trims f) where
     fewer r =
         let p : Edge → Bool = λ e. is_owning rows e.from r && same_name e.to r in
         let q : Edge → Bool = λ e. is_owning s.rows e.from r && same_name e.to r in
-        omega (arith, sum_by-append (λ e. cond (p e) 1 0) (slot_edges slots) (rows_edges rows ++ rest), sum_by-append (λ e. cond (q e) 1 0) (slot_edges s.slots) (rows_edges s.rows ++ rest),
-          slot_owns rows r slots, slot_owns s.rows r s.slots,
-          count_sub p q (λ e h. let k = and_parts _ _ h in and_join _ _ (owning_same e.from r k.0) k.1) (sub_append (trimmed_edges s.rows) (sub_all rest)))
+        omega (
+          arith,
+          sum_by-append (λ e. cond (p e) 1 0) (slot_edges slots) (rows_edges rows ++ rest),
+          sum_by-append (λ e. cond (q e) 1 0) (slot_edges s.slots) (rows_edges s.rows ++ rest),
+          slot_owns rows r slots,
+          slot_owns s.rows r s.slots,
+          count_sub p q (λ e h. let k = and_parts _ _ h in and_join _ _ (owning_same e.from r k.0) k.1) (sub_append (trimmed_edges s.rows) (sub_all rest)),
+        )
 
     row_keys : (x : Row) → Member x rows → Differ same_key (field_keys x)
     row_keys x m = let y = Member_of_map f x s.rows m in
@@ -150,13 +155,13 @@ module _ (f : Row → Row) (c : Trims f) where
 
     pub trim_keeps : WellFormed (with_both s slots rows)
     trim_keeps = keeps_well_formed s slots rows t (record {
-        same_names = trimmed_names s.rows;
-        same_owners = trimmed_owner s.rows;
-        keys = row_keys;
-        old_or_slot = λ e m. inl (edge_old e m);
-        fewer_owning = fewer;
-        cowns = λ d m e. t.cowns_numbered d (cown_old d m) e
-      })
+      same_names = trimmed_names s.rows;
+      same_owners = trimmed_owner s.rows;
+      keys = row_keys;
+      old_or_slot = λ e m. inl (edge_old e m);
+      fewer_owning = fewer;
+      cowns = λ d m e. t.cowns_numbered d (cown_old d m) e;
+    })
 
 -- ---- a take
 drop_part : (fs : List (Key × Value)) (k : Key) → Sub (drop_field fs k) fs
@@ -169,12 +174,12 @@ module _ (x : ObjId) (k : Key) where
 
   taken_trims : Trims taken
   taken_trims = record {
-      name = λ r. elim (is_at x r) as (λ b. (cond b (record r { fields = drop_field r.fields k }) r).name ≡ r.name) [ true ↦ refl | false ↦ refl ];
-      owner = λ r. elim (is_at x r) as (λ b. (cond b (record r { fields = drop_field r.fields k }) r).owner ≡ r.owner) [ true ↦ refl | false ↦ refl ];
-      keys = λ r d. elim (is_at x r) as (λ b. Differ same_key (field_keys (cond b (record r { fields = drop_field r.fields k }) r))) [ true ↦ differ_sub same_key (sub_map (λ (f : Key × Value). f.0) (drop_part r.fields k)) d | false ↦ d ];
-      less = λ r. elim (is_at x r) as (λ b. Sub (field_targets (cond b (record r { fields = drop_field r.fields k }) r).fields) (field_targets r.fields)) [ true ↦ sub_flat_map (λ (f : Key × Value). targets_of_value f.1) (drop_part r.fields k) | false ↦ sub_all (field_targets r.fields) ];
-      values = λ r w m. inl (elim (is_at x r) as (λ b. Member w (row_values (cond b (record r { fields = drop_field r.fields k }) r)) → Member w (row_values r)) [ true ↦ sub_within (sub_map (λ (f : Key × Value). f.1) (drop_part r.fields k)) w | false ↦ λ n. n ] m)
-    }
+    name = λ r. elim (is_at x r) as (λ b. (cond b (record r { fields = drop_field r.fields k }) r).name ≡ r.name) [ true ↦ refl | false ↦ refl ];
+    owner = λ r. elim (is_at x r) as (λ b. (cond b (record r { fields = drop_field r.fields k }) r).owner ≡ r.owner) [ true ↦ refl | false ↦ refl ];
+    keys = λ r d. elim (is_at x r) as (λ b. Differ same_key (field_keys (cond b (record r { fields = drop_field r.fields k }) r))) [ true ↦ differ_sub same_key (sub_map (λ (f : Key × Value). f.0) (drop_part r.fields k)) d | false ↦ d ];
+    less = λ r. elim (is_at x r) as (λ b. Sub (field_targets (cond b (record r { fields = drop_field r.fields k }) r).fields) (field_targets r.fields)) [ true ↦ sub_flat_map (λ (f : Key × Value). targets_of_value f.1) (drop_part r.fields k) | false ↦ sub_all (field_targets r.fields) ];
+    values = λ r w m. inl (elim (is_at x r) as (λ b. Member w (row_values (cond b (record r { fields = drop_field r.fields k }) r)) → Member w (row_values r)) [ true ↦ sub_within (sub_map (λ (f : Key × Value). f.1) (drop_part r.fields k)) w | false ↦ λ n. n ] m);
+  }
 
 pub take_keeps : (s : State) (x : ObjId) (k : Key) → WellFormed s → WellFormed (take_result s x k)
 take_keeps s x k t = trim_keeps (taken x k) (taken_trims x k) s s.slots t (λ v m. inl m)
@@ -208,9 +213,9 @@ module _ (s : State) (r : ObjId) where
   values_after : (fs : List (Key × Value)) (w : Value) → Member w (map (λ (f : Key × Value). f.1) (map closed_field fs)) → Member w (map (λ (f : Key × Value). f.1) fs) ⊎ NamesNothing w
   values_after [] w m = absurd m
   values_after (f ∷ fs) w (inl e) = elim (closed_or_same f.1) [
-      | inl h ↦ inl (inl (sym h ∙ e))
-      | inr h ↦ inr (subst NamesNothing (sym h ∙ e) (refl, refl))
-    ]
+    | inl h ↦ inl (inl (sym h ∙ e))
+    | inr h ↦ inr (subst NamesNothing (sym h ∙ e) (refl, refl))
+  ]
   values_after (f ∷ fs) w (inr m) = elim (values_after fs w m) [ inl k ↦ inl (inr k) | inr k ↦ inr k ]
 
   abbrev closed_row : Row → Row
@@ -218,19 +223,19 @@ module _ (s : State) (r : ObjId) where
 
   closed_trims : Trims closed_row
   closed_trims = record {
-      name = λ x. elim (is_local x.owner) as (λ b. (cond b (record x { fields = map closed_field x.fields }) x).name ≡ x.name) [ true ↦ refl | false ↦ refl ];
-      owner = λ x. elim (is_local x.owner) as (λ b. (cond b (record x { fields = map closed_field x.fields }) x).owner ≡ x.owner) [ true ↦ refl | false ↦ refl ];
-      keys = λ x d. elim (is_local x.owner) as (λ b. Differ same_key (field_keys (cond b (record x { fields = map closed_field x.fields }) x))) [ true ↦ subst (Differ same_key) (sym (same_keys_after x.fields)) d | false ↦ d ];
-      less = λ x. elim (is_local x.owner) as (λ b. Sub (field_targets (cond b (record x { fields = map closed_field x.fields }) x).fields) (field_targets x.fields)) [ true ↦ less_after x.fields | false ↦ sub_all (field_targets x.fields) ];
-      values = λ x w m. elim (is_local x.owner) as (λ b. Member w (row_values (cond b (record x { fields = map closed_field x.fields }) x)) → Member w (row_values x) ⊎ NamesNothing w) [ true ↦ values_after x.fields w | false ↦ λ n. inl n ] m
-    }
+    name = λ x. elim (is_local x.owner) as (λ b. (cond b (record x { fields = map closed_field x.fields }) x).name ≡ x.name) [ true ↦ refl | false ↦ refl ];
+    owner = λ x. elim (is_local x.owner) as (λ b. (cond b (record x { fields = map closed_field x.fields }) x).owner ≡ x.owner) [ true ↦ refl | false ↦ refl ];
+    keys = λ x d. elim (is_local x.owner) as (λ b. Differ same_key (field_keys (cond b (record x { fields = map closed_field x.fields }) x))) [ true ↦ subst (Differ same_key) (sym (same_keys_after x.fields)) d | false ↦ d ];
+    less = λ x. elim (is_local x.owner) as (λ b. Sub (field_targets (cond b (record x { fields = map closed_field x.fields }) x).fields) (field_targets x.fields)) [ true ↦ less_after x.fields | false ↦ sub_all (field_targets x.fields) ];
+    values = λ x w m. elim (is_local x.owner) as (λ b. Member w (row_values (cond b (record x { fields = map closed_field x.fields }) x)) → Member w (row_values x) ⊎ NamesNothing w) [ true ↦ values_after x.fields w | false ↦ λ n. inl n ] m;
+  }
 
   was : (x : Option Value) (v : Value) → closed_slot s r x ≡ Some v → (slots : List (Option Value)) → Member x slots → Member (Some v) slots ⊎ NamesNothing v
   was None v e slots m = absurd (none_some v e)
   was (Some u) v e slots m = elim (closed_or_same u) [
-      | inl h ↦ inl (subst (λ z. Member z slots) (ap Some (sym h) ∙ e) m)
-      | inr h ↦ inr (subst NamesNothing (sym h ∙ some_is (closed_value s r u) v e) (refl, refl))
-    ]
+    | inl h ↦ inl (subst (λ z. Member z slots) (ap Some (sym h) ∙ e) m)
+    | inr h ↦ inr (subst NamesNothing (sym h ∙ some_is (closed_value s r u) v e) (refl, refl))
+  ]
 
   slots_closed : (slots : List (Option Value)) (v : Value) → Member (Some v) (map (closed_slot s r) slots) → Member (Some v) slots ⊎ NamesNothing v
   slots_closed slots v m = let x = Member_of_map (closed_slot s r) (Some v) slots m in was x.0 v x.1.1 slots x.1.0
@@ -249,9 +254,9 @@ module _ (s : State) (r : ObjId) where
 
   slots_after : (n : ℕ) (v : Value) → Member (Some v) (put_slot (map (closed_slot s r) s.slots) n (slot_at s.slots n)) → Member (Some v) s.slots ⊎ NamesNothing v
   slots_after n v m = elim (put_member (map (closed_slot s r) s.slots) n (slot_at s.slots n) (Some v) m) [
-      | inl h ↦ slots_closed s.slots v h
-      | inr h ↦ inl (at_member s.slots n v h)
-    ]
+    | inl h ↦ slots_closed s.slots v h
+    | inr h ↦ inl (at_member s.slots n v h)
+  ]
 
 pub close_keeps : (s : State) (n : ℕ) (r : ObjId) → WellFormed s → WellFormed (close_result s n r)
 close_keeps s n r t = trim_keeps (closed_row s r) (closed_trims s r) s (put_slot (map (closed_slot s r) s.slots) n (slot_at s.slots n)) t (slots_after s r n)

@@ -78,11 +78,11 @@ module _ (s : State) (gone : ObjId → Bool) (t : WellFormed s) (c : MayLeave s 
 
   source_left : (e : Edge) → Member e (edges rest) → Left e.from
   source_left e m p f = elim (begins rest e m) [
-      | at_slot h n ↦ let z = sym h ∙ f in cc
-      | at_row x n h b ↦ ap gone (field_is p x.name (sym f ∙ h)) ∙ not_true _ (Member_of_filter (λ (r : Row). not (gone r.name)) x s.rows n).1
-      | at_content d h n ↦ let z = sym h ∙ f in cc
-      | at_frozen x n h ↦ ap gone (field_is p x.name (sym f ∙ h)) ∙ frozen_left x.name n
-    ]
+    | at_slot h n ↦ let z = sym h ∙ f in cc
+    | at_row x n h b ↦ ap gone (field_is p x.name (sym f ∙ h)) ∙ not_true _ (Member_of_filter (λ (r : Row). not (gone r.name)) x s.rows n).1
+    | at_content d h n ↦ let z = sym h ∙ f in cc
+    | at_frozen x n h ↦ ap gone (field_is p x.name (sym f ∙ h)) ∙ frozen_left x.name n
+  ]
 
   lead_same : (f : Source) (o : ObjId) → Left f → gone o ≡ false → may_lead rest f o ≡ may_lead s f o
   lead_same Slot o l n = ap from_near (owner_same o n)
@@ -101,7 +101,7 @@ module _ (s : State) (gone : ObjId → Bool) (t : WellFormed s) (c : MayLeave s 
       let x = any_Member (λ (d : Edge). is_from rest.rows q d.from && same_name d.to r) (edges rest) b.1 in
       let p = and_parts (is_from rest.rows q (x.0).from) (same_name (x.0).to r) x.1.1 in
       and_join _ _ a.0 (and_join _ _ (show (is_in r) refl s.rows gone r b.0)
-        (Member_any (λ (d : Edge). is_from s.rows q d.from && same_name d.to r) x.0 (edges s) (sub_within edges_part x.0 x.1.0) (and_join _ _ (from_before q (x.0).from p.0) p.1)))
+      (Member_any (λ (d : Edge). is_from s.rows q d.from && same_name d.to r) x.0 (edges s) (sub_within edges_part x.0 x.1.0) (and_join _ _ (from_before q (x.0).from p.0) p.1)))
 
   above_before : {q r : ObjId} → Above rest q r → Above s q r
   above_before (direct {q} {r} e) = direct (owns_before q r e)
@@ -109,26 +109,26 @@ module _ (s : State) (gone : ObjId → Bool) (t : WellFormed s) (c : MayLeave s 
 
   pub left_well_formed : WellFormed rest
   left_well_formed = record {
-      rows_rise = order_sub name_below name_below_trans names_part t.rows_rise;
-      given_rise = t.given_rise;
-      own_rise = t.own_rise;
-      names_differ = differ_sub same_name (sub_append names_part (sub_all (names s.given ++ names s.own))) t.names_differ;
-      keys_differ = λ x m. elim (Member_of_append x rest.rows (s.given ++ s.own) m) [
-          | inl k ↦ t.keys_differ x (Member_left x s.rows (s.given ++ s.own) (row_before x k))
-          | inr k ↦ t.keys_differ x (Member_right x s.rows (s.given ++ s.own) k)
-        ];
-      mutable = λ x m. t.mutable x (row_before x m);
-      frozen = t.frozen;
-      bridge = λ o r h. let k = owner_old s.rows gone o (In r) h in
-          owner_stay s.rows gone r (false_by _ (λ e. no_both _ (c.whole o r k.1 e) k.0)) ∙ t.bridge o r k.1;
-      leads = λ e m. lead_same e.from e.to (source_left e m) (c.clear e m) ∙ t.leads e (sub_within edges_part e m);
-      one_owner = λ r b. let one = t.one_owner r (show (is_in r) refl s.rows gone r b) in omega (arith, one, owning_less r);
-      no_round = round_none rest (λ r a. none_above s t.no_round r (above_before a));
-      objects_numbered = λ o m. t.objects_numbered o (sub_within (sub_append names_part (sub_all (names s.given ++ names s.own))) o m);
-      cowns_numbered = λ d m. t.cowns_numbered d (sub_within cowns_part d m);
-      cowns_differ = t.cowns_differ;
-      made_here = t.made_here
-    }
+    rows_rise = order_sub name_below name_below_trans names_part t.rows_rise;
+    given_rise = t.given_rise;
+    own_rise = t.own_rise;
+    names_differ = differ_sub same_name (sub_append names_part (sub_all (names s.given ++ names s.own))) t.names_differ;
+    keys_differ = λ x m. elim (Member_of_append x rest.rows (s.given ++ s.own) m) [
+      | inl k ↦ t.keys_differ x (Member_left x s.rows (s.given ++ s.own) (row_before x k))
+      | inr k ↦ t.keys_differ x (Member_right x s.rows (s.given ++ s.own) k)
+    ];
+    mutable = λ x m. t.mutable x (row_before x m);
+    frozen = t.frozen;
+    bridge = λ o r h. let k = owner_old s.rows gone o (In r) h in
+        owner_stay s.rows gone r (false_by _ (λ e. no_both _ (c.whole o r k.1 e) k.0)) ∙ t.bridge o r k.1;
+    leads = λ e m. lead_same e.from e.to (source_left e m) (c.clear e m) ∙ t.leads e (sub_within edges_part e m);
+    one_owner = λ r b. let one = t.one_owner r (show (is_in r) refl s.rows gone r b) in omega (arith, one, owning_less r);
+    no_round = round_none rest (λ r a. none_above s t.no_round r (above_before a));
+    objects_numbered = λ o m. t.objects_numbered o (sub_within (sub_append names_part (sub_all (names s.given ++ names s.own))) o m);
+    cowns_numbered = λ d m. t.cowns_numbered d (sub_within cowns_part d m);
+    cowns_differ = t.cowns_differ;
+    made_here = t.made_here;
+  }
 
 pub well_formed_without : (s : State) (gone : ObjId → Bool) → WellFormed s → CanGo s gone → WellFormed (without s gone)
 well_formed_without s gone t c = left_well_formed s gone t (can_leave s gone c)

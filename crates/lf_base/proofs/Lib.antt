@@ -17,6 +17,7 @@ pub mod Lookup
 pub mod Members
 pub mod MovedRows
 pub mod Names
+pub mod NewRows
 pub mod OwnersAfterWrite
 pub mod OwnersGoRound
 pub mod Owning

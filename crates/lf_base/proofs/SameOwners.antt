@@ -51,9 +51,9 @@ module _ (s : State) (slots : List (Option Value)) (rows : List Row) (t : WellFo
 
   leads_after : Leads after
   leads_after e m = lead_same e.from e.to ∙ elim (k.old_or_slot e m) [
-      | inl n ↦ t.leads e n
-      | inr n ↦ ap (λ f. may_lead s f e.to) n.0 ∙ n.1
-    ]
+    | inl n ↦ t.leads e n
+    | inr n ↦ ap (λ f. may_lead s f e.to) n.0 ∙ n.1
+  ]
 
   from_slot : (q : ObjId) (f : Source) → f ≡ Slot → is_from rows q f ≡ true → ⊥
   from_slot q f h e = let z : is_from rows q Slot ≡ true = ap (is_from rows q) (sym h) ∙ e in cc
@@ -83,22 +83,22 @@ module _ (s : State) (slots : List (Option Value)) (rows : List Row) (t : WellFo
 
   pub keeps_well_formed : WellFormed after
   keeps_well_formed = record {
-      rows_rise = subst (InOrder name_below) (sym k.same_names) t.rows_rise;
-      given_rise = t.given_rise;
-      own_rise = t.own_rise;
-      names_differ = differ_after;
-      keys_differ = λ x m. elim (Member_of_append x rows (s.given ++ s.own) m) [ inl n ↦ k.keys x n | inr n ↦ t.keys_differ x (Member_right x s.rows (s.given ++ s.own) n) ];
-      mutable = λ x m h. mutable_at s t x.name (sym (k.same_owners x.name) ∙ owner_mem rows (differ_rows rows (names s.given ++ names s.own) differ_after) x m ∙ ap Some h);
-      frozen = t.frozen;
-      bridge = λ o r h. k.same_owners r ∙ t.bridge o r (sym (k.same_owners o) ∙ h);
-      leads = leads_after;
-      one_owner = λ r b. let one = t.one_owner r (ap (is_in r) (sym (k.same_owners r)) ∙ b) in omega (arith, one, k.fewer_owning r);
-      no_round = round_none after (λ r a. none_above s t.no_round r (above_before a));
-      objects_numbered = λ o m. t.objects_numbered o (subst (λ l. Member o (l ++ (names s.given ++ names s.own))) k.same_names m);
-      cowns_numbered = k.cowns;
-      cowns_differ = t.cowns_differ;
-      made_here = t.made_here
-    }
+    rows_rise = subst (InOrder name_below) (sym k.same_names) t.rows_rise;
+    given_rise = t.given_rise;
+    own_rise = t.own_rise;
+    names_differ = differ_after;
+    keys_differ = λ x m. elim (Member_of_append x rows (s.given ++ s.own) m) [ inl n ↦ k.keys x n | inr n ↦ t.keys_differ x (Member_right x s.rows (s.given ++ s.own) n) ];
+    mutable = λ x m h. mutable_at s t x.name (sym (k.same_owners x.name) ∙ owner_mem rows (differ_rows rows (names s.given ++ names s.own) differ_after) x m ∙ ap Some h);
+    frozen = t.frozen;
+    bridge = λ o r h. k.same_owners r ∙ t.bridge o r (sym (k.same_owners o) ∙ h);
+    leads = leads_after;
+    one_owner = λ r b. let one = t.one_owner r (ap (is_in r) (sym (k.same_owners r)) ∙ b) in omega (arith, one, k.fewer_owning r);
+    no_round = round_none after (λ r a. none_above s t.no_round r (above_before a));
+    objects_numbered = λ o m. t.objects_numbered o (subst (λ l. Member o (l ++ (names s.given ++ names s.own))) k.same_names m);
+    cowns_numbered = k.cowns;
+    cowns_differ = t.cowns_differ;
+    made_here = t.made_here;
+  }
 
 -- ---- owning edges don't begin at slots
 pub slot_owns : (rows : List Row) (r : ObjId) (slots : List (Option Value)) → count_by (λ (e : Edge). is_owning rows e.from r && same_name e.to r) (slot_edges slots) ≡ 0
@@ -128,39 +128,40 @@ module _ (s : State) (slots : List (Option Value)) (t : WellFormed s) (may : (v 
   slot_edge e m =
       let x = Member_of_flat_map (λ slot. edges_by Slot (slot_targets slot)) e slots m in
       let o = Member_of_map (λ (o : ObjId). record { from = Slot; to = o }) e (slot_targets x.0) x.1.1 in
-      let v = slot_target x.0 o.0 o.1.0 in
-      (ap (λ (d : Edge). d.from) (sym o.1.1),
-       subst (λ (d : Edge). from_near (owner_of s d.to) ≡ true) o.1.1 ((may v.0 (subst (λ z. Member z slots) v.1.0 x.1.0)).object_there o.0 v.1.1))
+      let v = slot_target x.0 o.0 o.1.0 in (
+        ap (λ (d : Edge). d.from) (sym o.1.1),
+        subst (λ (d : Edge). from_near (owner_of s d.to) ≡ true) o.1.1 ((may v.0 (subst (λ z. Member z slots) v.1.0 x.1.0)).object_there o.0 v.1.1),
+      )
 
   old_or_slot : (e : Edge) → Member e (edges (with_slots s slots)) → Member e (edges s) ⊎ ((e.from ≡ Slot) × (from_near (owner_of s e.to) ≡ true))
   old_or_slot e m = elim (Member_of_append e (slot_edges slots) (later s s.rows) m) [
-      | inl h ↦ inr (slot_edge e h)
-      | inr h ↦ inl (Member_right e (slot_edges s.slots) (later s s.rows) h)
-    ]
+    | inl h ↦ inr (slot_edge e h)
+    | inr h ↦ inl (Member_right e (slot_edges s.slots) (later s s.rows) h)
+  ]
 
   abbrev later_values : List Value
   later_values = field_values s.rows ++ (content_values s.held ++ (content_values s.made ++ (field_values s.given ++ field_values s.own)))
 
   cown_number : (c : CownId) → Member c (all_cowns (with_slots s slots)) → c.birth ≡ s.birth → IsNumber c.seq s.cowns
   cown_number c m e = elim (Member_of_append c (own_cowns s) (flat_map cowns_of_value (all_values (with_slots s slots))) m) [
-      | inl h ↦ t.cowns_numbered c (Member_left c (own_cowns s) (flat_map cowns_of_value (all_values s)) h) e
-      | inr h ↦ let v = Member_of_flat_map cowns_of_value c (all_values (with_slots s slots)) h in
-          elim (Member_of_append v.0 (slot_values slots) later_values v.1.0) [
-            | inl k ↦ let x = Member_of_flat_map option_to_list v.0 slots k in
-                (may v.0 (subst (λ z. Member z slots) (slot_value x.0 v.0 x.1.1) x.1.0)).cown_numbered c v.1.1 e
-            | inr k ↦ t.cowns_numbered c (Member_right c (own_cowns s) (flat_map cowns_of_value (all_values s)) (Member_flat_map cowns_of_value v.0 c (all_values s) (Member_right v.0 (slot_values s.slots) later_values k) v.1.1)) e
-          ]
-    ]
+    | inl h ↦ t.cowns_numbered c (Member_left c (own_cowns s) (flat_map cowns_of_value (all_values s)) h) e
+    | inr h ↦ let v = Member_of_flat_map cowns_of_value c (all_values (with_slots s slots)) h in
+        elim (Member_of_append v.0 (slot_values slots) later_values v.1.0) [
+          | inl k ↦ let x = Member_of_flat_map option_to_list v.0 slots k in
+              (may v.0 (subst (λ z. Member z slots) (slot_value x.0 v.0 x.1.1) x.1.0)).cown_numbered c v.1.1 e
+          | inr k ↦ t.cowns_numbered c (Member_right c (own_cowns s) (flat_map cowns_of_value (all_values s)) (Member_flat_map cowns_of_value v.0 c (all_values s) (Member_right v.0 (slot_values s.slots) later_values k) v.1.1)) e
+        ]
+  ]
 
   pub slots_keep : WellFormed (with_slots s slots)
   slots_keep = keeps_well_formed s slots s.rows t (record {
-      same_names = refl;
-      same_owners = λ o. refl;
-      keys = λ x m. t.keys_differ x (Member_left x s.rows (s.given ++ s.own) m);
-      old_or_slot = old_or_slot;
-      fewer_owning = λ r. omega (arith, owning_slots s slots r);
-      cowns = cown_number
-    })
+    same_names = refl;
+    same_owners = λ o. refl;
+    keys = λ x m. t.keys_differ x (Member_left x s.rows (s.given ++ s.own) m);
+    old_or_slot = old_or_slot;
+    fewer_owning = λ r. omega (arith, owning_slots s slots r);
+    cowns = cown_number;
+  })
 
 -- ---- each value of a state may be held by a further slot
 abbrev NamedBy : List Edge → ObjId → Type 0
@@ -196,31 +197,31 @@ value_edge s v o m n =
     elim (Member_of_append v (slot_values s.slots) _ m) [
       | inl h ↦ on_left (slot_edges s.slots) _ o (slots_name s.slots v o h n)
       | inr h ↦ on_right (slot_edges s.slots) _ o (elim (Member_of_append v (field_values s.rows) _ h) [
-          | inl k ↦ on_left (rows_edges s.rows) _ o (fields_name s.rows v o k n)
-          | inr k ↦ on_right (rows_edges s.rows) _ o (elim (Member_of_append v (content_values s.held) _ k) [
-              | inl j ↦ on_left (content_edges s.held) _ o (contents_name s.held v o j n)
-              | inr j ↦ on_right (content_edges s.held) _ o (elim (Member_of_append v (content_values s.made) _ j) [
-                  | inl z ↦ on_left (content_edges s.made) _ o (contents_name s.made v o z n)
-                  | inr z ↦ on_right (content_edges s.made) _ o (elim (Member_of_append v (field_values s.given) (field_values s.own) z) [
-                      | inl y ↦ on_left (rows_edges s.given) _ o (fields_name s.given v o y n)
-                      | inr y ↦ on_right (rows_edges s.given) (rows_edges s.own) o (fields_name s.own v o y n)
-                    ])
-                ])
+        | inl k ↦ on_left (rows_edges s.rows) _ o (fields_name s.rows v o k n)
+        | inr k ↦ on_right (rows_edges s.rows) _ o (elim (Member_of_append v (content_values s.held) _ k) [
+          | inl j ↦ on_left (content_edges s.held) _ o (contents_name s.held v o j n)
+          | inr j ↦ on_right (content_edges s.held) _ o (elim (Member_of_append v (content_values s.made) _ j) [
+            | inl z ↦ on_left (content_edges s.made) _ o (contents_name s.made v o z n)
+            | inr z ↦ on_right (content_edges s.made) _ o (elim (Member_of_append v (field_values s.given) (field_values s.own) z) [
+              | inl y ↦ on_left (rows_edges s.given) _ o (fields_name s.given v o y n)
+              | inr y ↦ on_right (rows_edges s.given) (rows_edges s.own) o (fields_name s.own v o y n)
             ])
+          ])
         ])
+      ])
     ]
 
 content_near : (o : ObjId) (w : Option Owner) → from_content o w ≡ true → from_near w ≡ true
 content_near o (Some w) e = refl
 content_near o None e = e
 
-lead_there : (s : State) (f : Source) (o : ObjId) → may_lead s f o ≡ true → from_near (owner_of s o) ≡ true
+pub lead_there : (s : State) (f : Source) (o : ObjId) → may_lead s f o ≡ true → from_near (owner_of s o) ≡ true
 lead_there s Slot o e = e
 lead_there s (Field p) o e = lead_near (owner_of s p) o (owner_of s o) e
 lead_there s (Content c) o e = content_near o (owner_of s o) e
 
 pub value_may_be_held : (s : State) (v : Value) → WellFormed s → Member v (all_values s) → SlotMayHold s v
 value_may_be_held s v t m = record {
-    object_there = λ o n. let e = value_edge s v o m n in subst (λ z. from_near (owner_of s z) ≡ true) e.1.1 (lead_there s (e.0).from (e.0).to (t.leads e.0 e.1.0));
-    cown_numbered = λ c n. t.cowns_numbered c (Member_right c (own_cowns s) (flat_map cowns_of_value (all_values s)) (Member_flat_map cowns_of_value v c (all_values s) m n))
-  }
+  object_there = λ o n. let e = value_edge s v o m n in subst (λ z. from_near (owner_of s z) ≡ true) e.1.1 (lead_there s (e.0).from (e.0).to (t.leads e.0 e.1.0));
+  cown_numbered = λ c n. t.cowns_numbered c (Member_right c (own_cowns s) (flat_map cowns_of_value (all_values s)) (Member_flat_map cowns_of_value v c (all_values s) m n));
+}

@@ -33,16 +33,16 @@ sub_flat_map f (pass {x} p) = sub_before (f x) (sub_flat_map f p)
 
 -- ---- order
 module _ {X : Type 0} (before : X → X → Bool) (trans : (x y z : X) → before x y ≡ true → before y z ≡ true → before x z ≡ true) where
-  order_tail : (x : X) (xs : List X) → InOrder before (x ∷ xs) → InOrder before xs
+  pub order_tail : (x : X) (xs : List X) → InOrder before (x ∷ xs) → InOrder before xs
   order_tail x [] o = tt
   order_tail x (y ∷ ys) o = o.1
 
-  order_all : (x : X) (xs : List X) → InOrder before (x ∷ xs) → (y : X) → Member y xs → before x y ≡ true
+  pub order_all : (x : X) (xs : List X) → InOrder before (x ∷ xs) → (y : X) → Member y xs → before x y ≡ true
   order_all x [] o y m = absurd m
   order_all x (z ∷ zs) o y (inl e) = ap (before x) (sym e) ∙ o.0
   order_all x (z ∷ zs) o y (inr m) = trans x z y o.0 (order_all z zs o.1 y m)
 
-  order_cons : (x : X) (xs : List X) → ((y : X) → Member y xs → before x y ≡ true) → InOrder before xs → InOrder before (x ∷ xs)
+  pub order_cons : (x : X) (xs : List X) → ((y : X) → Member y xs → before x y ≡ true) → InOrder before xs → InOrder before (x ∷ xs)
   order_cons x [] h o = tt
   order_cons x (y ∷ ys) h o = (h y (inl refl), o)
 

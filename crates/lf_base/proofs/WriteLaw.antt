@@ -44,7 +44,7 @@ is_or_frozen b (Some u) v n e = e
 is_or_frozen true None v n e = absurd (n (some_is v Frozen (sym e)))
 is_or_frozen false None v n e = cc
 
-local_not_frozen : Local ≡ Frozen → ⊥
+pub local_not_frozen : Local ≡ Frozen → ⊥
 local_not_frozen e = cc
 
 pub in_not_frozen : (q : ObjId) → In q ≡ Frozen → ⊥

@@ -1,25 +1,28 @@
 //! What was proved of the definitions of ownership, counts and dropping. Each
 //! function has an empty body; its clauses are the law.
 
-ghost use Rattle.std.specs.Prelude.{◌≡◌, ◌<◌, ◌↔◌, ◌⊎◌, ◌∷◌, ◌++◌, [], Bool, List, None, Some, true};
+ghost use Rattle.std.specs.Prelude.{◌≡◌, ◌<◌, ◌↔◌, ◌⊎◌, ◌∷◌, ◌++◌, [], Bool, List, None, Option, Some, false, true, ℕ};
 ghost use Rattle.lf_base.specs.declared.ids.CownId.{CownId};
 ghost use Rattle.lf_base.specs.declared.ids.ObjId.{ObjId};
 ghost use Rattle.lf_base.specs.declared.values.Key.{Key};
 ghost use Rattle.lf_base.specs.declared.values.Value.{Value};
+ghost use Rattle.lf_base.specs.CloseResult.{close_result};
 ghost use Rattle.lf_base.specs.ContentResult.{content_fault, content_refusal, content_result, has_cown};
+ghost use Rattle.lf_base.specs.EndResult.{end_result};
 ghost use Rattle.lf_base.specs.FreezeResult.{FreezeClosed, freeze_set};
 ghost use Rattle.lf_base.specs.Kept.{kept, kept_rows, stays};
 ghost use Rattle.lf_base.specs.MoveSet.{LocalPath, move_set};
 ghost use Rattle.lf_base.specs.NewCown.{made_result};
 ghost use Rattle.lf_base.specs.Owners.{has_row};
 ghost use Rattle.lf_base.specs.Ownership.{Above, NoRound, below, round};
-ghost use Rattle.lf_base.specs.PlainChanges.{with_slot};
+ghost use Rattle.lf_base.specs.PlainChanges.{object_result, region_result, with_slot, with_slots};
 ghost use Rattle.lf_base.specs.PlainState.{Row, State};
 ghost use Rattle.lf_base.specs.Settling.{CanGo, Idle, Renewed, Run, Spent, Watched, without};
 ghost use Rattle.lf_base.specs.Sets.{Member};
 ghost use Rattle.lf_base.specs.Suspects.{AllHang, Suspect, Suspected};
+ghost use Rattle.lf_base.specs.TakeResult.{take_result};
 ghost use Rattle.lf_base.specs.WalkCounts.{borrowed, is_open};
-ghost use Rattle.lf_base.specs.WellFormed.{SlotMayHold, WellFormed};
+ghost use Rattle.lf_base.specs.WellFormed.{SlotMayHold, WellFormed, all_values};
 ghost use Rattle.lf_base.specs.WriteResult.{write_refusal, write_result};
 
 /// The rows that stay are rows of the state and justify each other, and each set
@@ -65,6 +68,24 @@ pub fn further_slot()
     ensures { (s : State) (v : Value) → WellFormed s → SlotMayHold s v ↔ WellFormed (with_slot s (Some v)) }
 {}
 
+/// Each value of a well-formed state may be held by a further slot, and a state is
+/// well-formed with any slots that may be held.
+pub fn slots_keep()
+    ensures values { (s : State) (v : Value) → WellFormed s → Member v (all_values s) → SlotMayHold s v }
+    ensures keep { (s : State) (slots : List (Option Value)) → WellFormed s → ((v : Value) → Member (Some v) slots → SlotMayHold s v) → WellFormed (with_slots s slots) }
+{}
+
+/// A new object and a new region keep a state well-formed.
+pub fn new_rows_keep()
+    ensures object { (s : State) → WellFormed s → WellFormed (object_result s) }
+    ensures region { (s : State) → WellFormed s → WellFormed (region_result s) }
+{}
+
+/// The taking of a field keeps a state well-formed.
+pub fn take_keeps()
+    ensures { (s : State) (x : ObjId) (k : Key) → WellFormed s → WellFormed (take_result s x k) }
+{}
+
 /// A write of a field that isn't a frozen object's gives a well-formed state
 /// exactly where it isn't refused.
 pub fn write_law()
@@ -76,6 +97,18 @@ pub fn write_law()
 pub fn content_law()
     ensures held { (s : State) (c : CownId) (v : Value) → WellFormed s → has_cown s.held c ≡ true → SlotMayHold s v → (content_refusal s c v ≡ None) ↔ WellFormed (content_result s c v) }
     ensures made { (s : State) (v : Value) → WellFormed s → SlotMayHold s v → (content_fault (made_result s v) v ≡ None) ↔ WellFormed (made_result s v) }
+{}
+
+/// Closing a region keeps a state well-formed.
+pub fn close_keeps()
+    ensures { (s : State) (at : ℕ) (r : ObjId) → WellFormed s → WellFormed (close_result s at r) }
+{}
+
+/// The end of a behaviour leaves a well-formed state in which every region is
+/// closed.
+pub fn end_keeps()
+    ensures well_formed { (s : State) → WellFormed s → WellFormed (end_result s) }
+    ensures closed { (s : State) (r : ObjId) → is_open (end_result s) r ≡ false }
 {}
 
 /// The rows that stay of a well-formed state make a well-formed state.
