@@ -5,7 +5,7 @@ use Rattle.lf_base.specs.declared.ids.ObjId.{ObjId}
 use Rattle.lf_base.specs.declared.values.Owner.{Owner}
 use Rattle.lf_base.specs.declared.values.Owner.TheVariants.{Frozen, In, Local}
 use Rattle.lf_base.specs.Edges.{Content, Edge, Field, Slot, Source, content_edges, row_edges, rows_edges, slot_edges}
-use Rattle.lf_base.specs.Kept.{is_owned_by, kept, kept_rows, points, points_into, stays, stays_by_owner}
+use Rattle.lf_base.specs.Kept.{is_owned_by, kept_rows, points, points_into, stays, stays_by_owner}
 use Rattle.lf_base.specs.Names.{same_name}
 use Rattle.lf_base.specs.Owners.{has_row, is_in, is_local_at, owner_in, row_at, row_owner}
 use Rattle.lf_base.specs.Ownership.{is_in_other, is_owning}

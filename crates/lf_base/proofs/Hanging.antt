@@ -14,7 +14,6 @@ use Rattle.lf_base.specs.Sets.{Member, grow, least}
 use Rattle.lf_base.specs.Suspects.{AllHang, Bare, Hangs, LeadsTo, MustGo, Object, Region, Suspect, Suspected, by_region, by_row, by_row_into, itself}
 use Rattle.lf_base.specs.WalkCounts.{is_borrower}
 use Rattle.lf_base.specs.WellFormed.{from_row}
-use Rattle.lf_base.proofs.Choice.{goes}
 use Rattle.lf_base.proofs.Dropped.{and_join, and_parts, in_region, mem_has, not_false, row_of, some_is}
 use Rattle.lf_base.proofs.Least.{Grows, least_closed}
 use Rattle.lf_base.proofs.Lookup.{EdgeRow, edge_in, edge_row, joined_has, kept_stays, named, no_both, owner_has, owner_mem, row_edge, to_local, to_region}

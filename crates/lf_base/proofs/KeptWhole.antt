@@ -14,7 +14,6 @@ use Rattle.lf_base.specs.Sets.{Member}
 use Rattle.lf_base.specs.Settling.{CanGo, without}
 use Rattle.lf_base.specs.WalkCounts.{is_borrower}
 use Rattle.lf_base.specs.WellFormed.{WellFormed, from_content, from_frozen, from_row, may_lead}
-use Rattle.lf_base.proofs.Choice.{goes}
 use Rattle.lf_base.proofs.Dropped.{Bridged, and_join, and_parts, leans, mem_has, row_of, sub_filter, sub_same, sub_shrink}
 use Rattle.lf_base.proofs.Goes.{at_content, at_frozen, at_row, at_slot, begins, rest_within}
 use Rattle.lf_base.proofs.LeftWhole.{well_formed_without}

@@ -10,6 +10,7 @@ pub mod FurtherSlot
 pub mod Goes
 pub mod Hanging
 pub mod KeptWhole
+pub mod KeyLemmas
 pub mod Least
 pub mod LeftWhole
 pub mod LocalWrite
@@ -28,6 +29,7 @@ pub mod Sets
 pub mod Setting
 pub mod Stays
 pub mod Sublists
+pub mod TextLemmas
 pub mod Watch
 pub mod Without
 pub mod WriteLaw

@@ -26,7 +26,7 @@ use Rattle.lf_base.proofs.SameOwners.{lead_there}
 use Rattle.lf_base.proofs.Sets.{Member_left, Member_of_append, Member_right, Within}
 use Rattle.lf_base.proofs.Sublists.{is_name_below, name_below_trans, order_all, order_cons, order_tail}
 use Rattle.lf_base.proofs.Watch.{false_by, or_left}
-use Rattle.lf_base.proofs.WriteLaw.{in_not_frozen, in_not_local, kind, local_not_frozen}
+use Rattle.lf_base.proofs.WriteLaw.{in_not_frozen, in_not_local, local_not_frozen}
 
 -- ---- a row put among others
 inserted : (x : Row) (rows : List Row) (y : Row) → Member y (insert_row x rows) → (x ≡ y) ⊎ Member y rows

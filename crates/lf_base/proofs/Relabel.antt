@@ -13,7 +13,6 @@ use Rattle.lf_base.specs.Sets.{Member}
 use Rattle.lf_base.specs.WalkCounts.{borrows, is_borrower}
 use Rattle.lf_base.specs.WriteResult.{relabel}
 use Rattle.lf_base.proofs.Names.{same_name_is, same_name_itself}
-use Rattle.lf_base.proofs.Watch.{inside}
 
 abbrev pub owner_over : Bool → Owner → Option Owner → Option Owner
 owner_over b w None = None

@@ -1,4 +1,6 @@
 pub mod RefusalKinds
+pub mod Lines
+pub mod Texts
 pub mod FaultTable
 pub mod Names
 pub mod PlainState

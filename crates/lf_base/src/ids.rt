@@ -47,3 +47,8 @@ impl CownId {
 pub struct TextId {
     pub index: u32,
 }
+
+impl TextId {
+    /// The place of the fixed text `print`.
+    pub const PRINT: TextId = TextId { index: 5 };
+}

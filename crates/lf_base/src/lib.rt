@@ -2,12 +2,18 @@
 //!
 //! It stands on no other crate of Lungfish. Its types are plain data. What each
 //! one promises: a list type is, to contracts, the list of its items.
+//!
+//! Its specs say what ownership, counts and dropping are, on a plain state without
+//! counts and marks. `laws` has what was proved of them, and `worked_rows` short
+//! scripts on which they were tried.
 #![tactic(auto)]
 
 mod behaviours;
 mod faults;
 mod ids;
+mod interned;
 pub mod laws;
+mod limits;
 mod lists;
 mod memory;
 mod refusals;
@@ -19,6 +25,8 @@ pub mod worked_rows;
 pub use behaviours::{Job, Spawn};
 pub use faults::{Fault, FaultAt, HeapFail};
 pub use ids::{CownId, ObjId, TextId};
+pub use interned::Texts;
+pub use limits::MOST_SCRIPT_BYTES;
 pub use lists::{Cowns, Fields, Held, Line, Lines, Listed, Order, Spawns, Values};
 pub use memory::OutOfMemory;
 pub use refusals::{Place, ReadFail, Refusal, RefusalKind};

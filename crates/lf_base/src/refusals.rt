@@ -1,6 +1,7 @@
 ghost use Rattle.std.specs.Prelude.{◌≡◌};
 ghost use Rattle.lf_base.specs.RefusalKinds.{kind_name};
 
+use crate::memory::OutOfMemory;
 use thiserror::Error;
 
 /// A place in a script. Lines and columns count from 1, columns in bytes.
@@ -44,4 +45,15 @@ pub enum ReadFail {
     /// Memory ran out.
     #[error("out of memory")]
     OutOfMemory,
+}
+
+impl From<OutOfMemory> for ReadFail {
+    ghost use Rattle.std.specs.Prelude.{◌≡◌};
+    ghost use Rattle.lf_base.specs.declared.refusals.ReadFail.TheVariants.{OutOfMemory};
+
+    ghost from_gives = { λ _ fail. fail ≡ OutOfMemory };
+
+    fn from(_error: OutOfMemory) -> ReadFail {
+        ReadFail::OutOfMemory
+    }
 }

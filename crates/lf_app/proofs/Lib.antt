@@ -1,0 +1,13 @@
+pub mod Rows
+pub mod Shapes
+pub mod Readings
+pub mod Steps
+pub mod Expressions
+pub mod LineForms
+pub mod Known
+pub mod TokenShapes
+pub mod Spelled
+pub mod Walked
+pub mod Ahead
+pub mod FrontLines
+pub mod TokenLists

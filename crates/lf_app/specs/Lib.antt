@@ -1,0 +1,11 @@
+pub mod Words
+pub mod Statuses
+pub mod Line
+pub mod FirstForm
+pub mod Output
+pub mod Answers
+pub mod Fields
+pub mod TokenForms
+pub mod Walks
+pub mod Standing
+pub mod Outcomes

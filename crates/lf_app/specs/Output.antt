@@ -1,0 +1,40 @@
+-- What the program writes.
+use Rattle.std.specs.Prelude.{ℕ, List, [], ◌∷◌, ◌++◌, codes, flat_map}
+use Rattle.std.specs.Fmt.{decimal}
+use Rattle.lf_base.specs.declared.refusals.Refusal.{Refusal}
+use Rattle.lf_base.specs.declared.refusals.RefusalKind.TheVariants.{NotBuilt}
+use Rattle.lf_base.specs.RefusalKinds.{kind_name}
+use Rattle.lf_app.specs.FirstForm.{Verdict, Runs, Stops, verdict}
+
+-- a line with its line feed
+abbrev pub with_feed : List ℕ → List ℕ
+with_feed line = line ++ 10 ∷ []
+
+-- the line of a refusal
+abbrev pub refusal_line : Refusal → List ℕ
+refusal_line refusal =
+    with_feed (codes "refused " ++ kind_name refusal.kind ++ codes " at line " ++ decimal refusal.place.line ++ codes " column " ++ decimal refusal.place.column)
+
+-- the printed numbers, a line each
+abbrev pub printed_lines : List ℕ → List ℕ
+printed_lines numbers = flat_map (λ number. with_feed (decimal number)) numbers
+
+-- the text of a run of one behaviour: its heading, what it printed, and the closing line
+abbrev pub run_text : List ℕ → List ℕ
+run_text numbers = with_feed (codes "[0]") ++ printed_lines numbers ++ with_feed (codes "done 1 behaviours 0 faults")
+
+-- what is written of a script
+abbrev pub output_of : Verdict → List ℕ
+output_of (Runs numbers) = run_text numbers
+output_of (Stops line) = refusal_line (record { kind = NotBuilt; place = record { line = line; column = 1 } })
+
+abbrev pub output : List ℕ → List ℕ
+output bytes = output_of (verdict bytes)
+
+-- the journal of a script's run: the numbers of its behaviours, in the order in which they were committed
+abbrev pub journal_of : Verdict → List ℕ
+journal_of (Runs numbers) = 0 ∷ []
+journal_of (Stops line) = []
+
+abbrev pub journal : List ℕ → List ℕ
+journal bytes = journal_of (verdict bytes)

@@ -1,0 +1,7 @@
+use Rattle.std.proofs.Common.{◌≡◌, take}
+use Rattle.lf_lexer.specs.Bytes.{is_digit}
+use Rattle.lf_lexer.proofs.Fronts.{passes_prefix}
+use Rattle.lf_lexer.proofs.front.number_front.Goals as goal
+
+pub value-requires : goal.value-requires
+value-requires c = rw c.digits_len-len.ensures.len (passes_prefix is_digit c.args.bytes.now)
