@@ -1,5 +1,5 @@
 -- What comes first in a read, a write and a take of any target.
-use Rattle.std.specs.Prelude.{Bool, None, Option, Some, cond, eqb, false}
+use Rattle.std.specs.Prelude.{Bool, None, Option, Some, codes, cond, eqb, false, ℕ}
 use Rattle.lf_base.specs.declared.faults.Fault.{Fault}
 use Rattle.lf_base.specs.declared.faults.Fault.TheVariants.{Kind, NoField, NotAcquired, NotObject}
 use Rattle.lf_base.specs.declared.ids.CownId.{CownId}
@@ -10,6 +10,7 @@ use Rattle.lf_base.specs.declared.values.Value.TheVariants.{Cown, Obj}
 use Rattle.lf_base.specs.ContentResult.{has_cown}
 use Rattle.lf_base.specs.Names.{key_of}
 use Rattle.lf_base.specs.PlainState.{State}
+use Rattle.lf_base.specs.Texts.{fixed_texts, place_of}
 
 -- the first of two refusals
 abbrev pub first_of_two : Option Fault → Option Fault → Option Fault
@@ -31,9 +32,13 @@ key_refusal (Some k) = None
 abbrev pub plain_refusal : Value → Value → Option Fault
 plain_refusal target key = first_of_two (target_refusal target) (key_refusal (key_of key))
 
--- the key of a cown's content: the text `value`, which is the first of every script's texts
+-- the place of the text `value` among the texts of every script
+abbrev pub content_place : ℕ
+content_place = place_of fixed_texts (codes "value")
+
+-- the key of a cown's content: that text
 abbrev pub is_content_key : Key → Bool
-is_content_key (Text t) = eqb t.index 0
+is_content_key (Text t) = eqb t.index content_place
 is_content_key (Int n) = false
 
 -- the cown must be held, and then the key be that of the content

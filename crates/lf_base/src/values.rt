@@ -1,4 +1,5 @@
 ghost use Rattle.std.specs.Prelude.{◌≡◌, ◌↔◌, IsTrue, option_to_list};
+ghost use Rattle.lf_base.specs.PlainChecks.{is_content_key};
 ghost use Rattle.lf_base.specs.Names.{key_of, same_key, same_owner, targets_of_value};
 
 use crate::ids::{CownId, ObjId, TextId};
@@ -58,6 +59,16 @@ impl Key {
         ensures { result ≡ same_key self other }
     {
         self == other
+    }
+
+    /// Whether it is the key of a cown's content, the text `value`.
+    pub fn is_content(self) -> bool
+        ensures { result ≡ is_content_key self }
+    {
+        match self {
+            Key::Text(text) => text.index == 0,
+            Key::Int(_) => false,
+        }
     }
 }
 
