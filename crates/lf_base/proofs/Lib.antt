@@ -3,6 +3,7 @@ pub mod Climb
 pub mod ContentLaw
 pub mod Counts
 pub mod CownNames
+pub mod DissolveWhole
 pub mod Dropped
 pub mod EndWhole
 pub mod FewerFields
@@ -23,6 +24,7 @@ pub mod OwnersAfterWrite
 pub mod OwnersGoRound
 pub mod Owning
 pub mod Paths
+pub mod RegionMoves
 pub mod Relabel
 pub mod SameOwners
 pub mod Sets
