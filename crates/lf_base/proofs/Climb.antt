@@ -5,15 +5,20 @@ use Rattle.lf_base.specs.Names.{same_name}
 use Rattle.lf_base.specs.Ownership.{Above, NoRound, direct, owns, step}
 use Rattle.lf_base.specs.PlainState.{State}
 use Rattle.lf_base.proofs.Names.{same_name_is}
+use Rattle.lf_base.proofs.RegionMoves.{after}
 
--- what a write into region home does to owners
-pub record Owned (s after : State) (home : ObjId) (New : ObjId → Type 0) : Type 0 where
+-- a change after which only region home owns more
+pub record Gains (s after : State) (home : ObjId) (New : ObjId → Type 0) : Type 0 where
   pub old_or_new : (q r : ObjId) → owns after q r ≡ true → (owns s q r ≡ true) ⊎ ((q ≡ home) × New r)
-  pub others_stay : (q r : ObjId) → owns s q r ≡ true → same_name q home ≡ false → owns after q r ≡ true
-  pub new_owned : (r : ObjId) → New r → owns after home r ≡ true
   pub not_itself : New home → ⊥
 
-module _ (s after : State) (home : ObjId) (New : ObjId → Type 0) (o : Owned s after home New) where
+-- what a write into region home does to owners
+pub record OwnsMore (s after : State) (home : ObjId) (New : ObjId → Type 0) : Type 0 where
+  pub gains : Gains s after home New
+  pub others_stay : (q r : ObjId) → owns s q r ≡ true → same_name q home ≡ false → owns after q r ≡ true
+  pub new_owned : (r : ObjId) → New r → owns after home r ≡ true
+
+module _ (s after : State) (home : ObjId) (New : ObjId → Type 0) (o : Gains s after home New) where
   abbrev To : ObjId → Type 0
   To q = (q ≡ home) ⊎ Above s q home
 
@@ -63,6 +68,7 @@ module _ (s after : State) (home : ObjId) (New : ObjId → Type 0) (o : Owned s 
     ]
   ]
 
+module _ (s after : State) (home : ObjId) (New : ObjId → Type 0) (o : OwnsMore s after home New) where
   -- the way up to the region, until it is first met
   first_met : {q r : ObjId} → Above s q r → r ≡ home → same_name q home ≡ false → Above after q home
   first_met (direct {q} {r} e) h n = direct (o.others_stay q home (ap (owns s q) (sym h) ∙ e) n)
@@ -76,6 +82,6 @@ module _ (s after : State) (home : ObjId) (New : ObjId → Type 0) (o : Owned s 
   pub round_after : (b : ObjId) → New b → Above s b home → NoRound after → ⊥
   round_after b n a flat =
       elim (same_name b home) as (λ c. same_name b home ≡ c → ⊥) [
-        | true ↦ λ h. o.not_itself (subst New (same_name_is b home h) n)
+        | true ↦ λ h. o.gains.not_itself (subst New (same_name_is b home h) n)
         | false ↦ λ h. flat home (step (o.new_owned b n) (first_met a refl h))
       ] refl

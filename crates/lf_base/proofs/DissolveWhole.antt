@@ -42,12 +42,12 @@ module _ (s : State) (t : WellFormed s) (r : ObjId) (own : owner_in s.rows r ≡
   -- a row that is in a region after was in it before, and it isn't r
   region_before : (o q : ObjId) → owner_in rows o ≡ Some (In q) → (owner_in s.rows o ≡ Some (In q)) × (same_name r q ≡ false)
   region_before o q h = elim (became r Local (owner_in s.rows o)) [
-      | nothing e k ↦ absurd (some_none (In q) (sym k ∙ sym (region_owner r Local s.rows o) ∙ h))
-      | the_new e k ↦ absurd (in_local q (sym k ∙ sym (region_owner r Local s.rows o) ∙ h))
-      | the_same v e n k ↦
-          let same : v ≡ In q = some_is v (In q) (sym k ∙ sym (region_owner r Local s.rows o) ∙ h) in
-          (e ∙ ap Some same, ap (λ u. is_in r (Some u)) (sym same) ∙ n)
-    ]
+    | nothing e k ↦ absurd (some_none (In q) (sym k ∙ sym (region_owner r Local s.rows o) ∙ h))
+    | the_new e k ↦ absurd (in_local q (sym k ∙ sym (region_owner r Local s.rows o) ∙ h))
+    | the_same v e n k ↦
+        let same : v ≡ In q = some_is v (In q) (sym k ∙ sym (region_owner r Local s.rows o) ∙ h) in
+        (e ∙ ap Some same, ap (λ u. is_in r (Some u)) (sym same) ∙ n)
+  ]
 
   region_on : (o q : ObjId) → owner_in s.rows o ≡ Some (In q) → same_name r q ≡ false → owner_in rows o ≡ Some (In q)
   region_on o q h n = region_owner r Local s.rows o ∙ ap (swapped r Local) h ∙ swap_other r Local (In q) n
@@ -62,11 +62,11 @@ module _ (s : State) (t : WellFormed s) (r : ObjId) (own : owner_in s.rows r ≡
   inner_on e m p q f h n (In x) k l =
       let old : owner_in s.rows e.to ≡ Some (In x) = is_or_frozen (has_row s.given e.to || has_row s.own e.to) (owner_in s.rows e.to) (In x) (in_not_frozen x) k in
       let other : same_name r x ≡ false = false_by _ (λ z.
-          let is : r ≡ x = same_name_is r x z in
-          elim (or_split (same_name q x) (same_name x e.to) l) [
-            | inl y ↦ no_both _ (ap (same_name r) (same_name_is q x y ∙ sym is) ∙ same_name_itself r) n
-            | inr y ↦ not_owning e m (sym (is ∙ same_name_is x e.to y)) (ap (λ g. is_owning s.rows g r) f ∙ ap (is_in_other r) h ∙ ap not (false_by _ (λ u. no_both _ (ap (same_name r) (same_name_is q r u) ∙ same_name_itself r) n)))
-          ]) in
+      let is : r ≡ x = same_name_is r x z in
+      elim (or_split (same_name q x) (same_name x e.to) l) [
+        | inl y ↦ no_both _ (ap (same_name r) (same_name_is q x y ∙ sym is) ∙ same_name_itself r) n
+        | inr y ↦ not_owning e m (sym (is ∙ same_name_is x e.to y)) (ap (λ g. is_owning s.rows g r) f ∙ ap (is_in_other r) h ∙ ap not (false_by _ (λ u. no_both _ (ap (same_name r) (same_name_is q r u) ∙ same_name_itself r) n)))
+      ]) in
       ap (λ u. from_inner q e.to (or_frozen (has_row s.given e.to || has_row s.own e.to) u)) (region_on e.to x old other) ∙ l
 
   target_owner : (e : Edge) → Member e (edges s) → (p q : ObjId) → e.from ≡ Field p → owner_in s.rows p ≡ Some (In q) → same_name r q ≡ false → (u : Option Owner) → owner_of s e.to ≡ u → from_inner q e.to u ≡ true → from_inner q e.to (owner_of after e.to) ≡ true
@@ -119,10 +119,10 @@ module _ (s : State) (t : WellFormed s) (r : ObjId) (own : owner_in s.rows r ≡
 
   other_before : (b : ObjId) (u : Option Owner) → is_in_other b (swapped r Local u) ≡ true → is_in_other b u ≡ true
   other_before b u h = elim (became r Local u) [
-      | nothing e k ↦ let z : is_in_other b None ≡ true = ap (is_in_other b) (sym k) ∙ h in cc
-      | the_new e k ↦ let z : is_in_other b (Some Local) ≡ true = ap (is_in_other b) (sym k) ∙ h in cc
-      | the_same v e n k ↦ ap (is_in_other b) (e ∙ sym k) ∙ h
-    ]
+    | nothing e k ↦ let z : is_in_other b None ≡ true = ap (is_in_other b) (sym k) ∙ h in cc
+    | the_new e k ↦ let z : is_in_other b (Some Local) ≡ true = ap (is_in_other b) (sym k) ∙ h in cc
+    | the_same v e n k ↦ ap (is_in_other b) (e ∙ sym k) ∙ h
+  ]
 
   owning_before : (f : Source) (b : ObjId) → is_owning rows f b ≡ true → is_owning s.rows f b ≡ true
   owning_before Slot b e = e
@@ -135,9 +135,13 @@ module _ (s : State) (t : WellFormed s) (r : ObjId) (own : owner_in s.rows r ≡
   one_after : (b : ObjId) → is_bridge rows b ≡ true → owning_edges after b ≤ 1
   one_after b e =
       let one = t.one_owner b (in_before b b e) in
-      omega (arith, one, ap (count_by (λ (d : Edge). is_owning rows d.from b && same_name d.to b)) (edges_same r Local s t),
+      omega (
+        arith,
+        one,
+        ap (count_by (λ (d : Edge). is_owning rows d.from b && same_name d.to b)) (edges_same r Local s t),
         count_sub (λ (d : Edge). is_owning rows d.from b && same_name d.to b) (λ (d : Edge). is_owning s.rows d.from b && same_name d.to b)
-          (λ d h. let k = and_parts (is_owning rows d.from b) (same_name d.to b) h in and_join _ _ (owning_before d.from b k.0) k.1) (sub_all (edges s)))
+            (λ d h. let k = and_parts (is_owning rows d.from b) (same_name d.to b) h in and_join _ _ (owning_before d.from b k.0) k.1) (sub_all (edges s)),
+      )
 
   from_before : (q : ObjId) (f : Source) → is_from rows q f ≡ true → is_from s.rows q f ≡ true
   from_before q Slot e = e
@@ -151,7 +155,7 @@ module _ (s : State) (t : WellFormed s) (r : ObjId) (own : owner_in s.rows r ≡
       let y = any_Member (λ (d : Edge). is_from rows q d.from && same_name d.to x) (edges after) b.1 in
       let p = and_parts (is_from rows q (y.0).from) (same_name (y.0).to x) y.1.1 in
       and_join _ _ a.0 (and_join _ _ (in_before x x b.0)
-        (Member_any (λ (d : Edge). is_from s.rows q d.from && same_name d.to x) y.0 (edges s) (edge_before r Local s t y.0 y.1.0) (and_join _ _ (from_before q (y.0).from p.0) p.1)))
+      (Member_any (λ (d : Edge). is_from s.rows q d.from && same_name d.to x) y.0 (edges s) (edge_before r Local s t y.0 y.1.0) (and_join _ _ (from_before q (y.0).from p.0) p.1)))
 
   above_before : {q x : ObjId} → Above after q x → Above s q x
   above_before (direct {q} {r = x} e) = direct (owns_before q x e)

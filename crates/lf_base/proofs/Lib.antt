@@ -17,6 +17,7 @@ pub mod LeftWhole
 pub mod LocalWrite
 pub mod Lookup
 pub mod Members
+pub mod MergeWhole
 pub mod MovedRows
 pub mod Names
 pub mod NewRows

@@ -12,7 +12,7 @@ use Rattle.lf_base.specs.PlainState.{Row, State}
 use Rattle.lf_base.specs.Sets.{Member}
 use Rattle.lf_base.specs.WellFormed.{SlotMayHold, WellFormed}
 use Rattle.lf_base.specs.WriteResult.{is_at, put_field, relabel, write_fields}
-use Rattle.lf_base.proofs.Climb.{Owned, round_after, straight_after}
+use Rattle.lf_base.proofs.Climb.{OwnsMore, round_after, straight_after}
 use Rattle.lf_base.proofs.Counts.{Distinct, with_rows}
 use Rattle.lf_base.proofs.Dropped.{and_join, and_parts, in_region, some_is}
 use Rattle.lf_base.proofs.Goes.{at_content, at_frozen, at_row, at_slot, begins}
@@ -123,20 +123,22 @@ module _ (s : State) (t : WellFormed s) (x : ObjId) (k : Key) (v : Value) (home 
       (still y.0 f.name y.1.0 (row_edge_of y.0 f.name q y.1.0 f.is f.owner) f.is other)
       (and_join _ _ (ap (is_from rows q) f.is ∙ ap (is_in q) (old_owner f.name q f.owner) ∙ same_name_itself q) p.1)))
 
-  region_owned : Owned s after home (λ r. owns after home r ≡ true)
+  region_owned : OwnsMore s after home (λ r. owns after home r ≡ true)
   region_owned = record {
-    old_or_new = λ q r e. elim (same_name q home) as (λ b. same_name q home ≡ b → (owns s q r ≡ true) ⊎ ((q ≡ home) × (owns after home r ≡ true))) [
-      | true ↦ λ h. let f : q ≡ home = same_name_is q home h in inr (f, ap (λ z. owns after z r) (sym f) ∙ e)
-      | false ↦ λ h. inl (owns_old q r e h)
-    ] refl;
+    gains = record {
+      old_or_new = λ q r e. elim (same_name q home) as (λ b. same_name q home ≡ b → (owns s q r ≡ true) ⊎ ((q ≡ home) × (owns after home r ≡ true))) [
+        | true ↦ λ h. let f : q ≡ home = same_name_is q home h in inr (f, ap (λ z. owns after z r) (sym f) ∙ e)
+        | false ↦ λ h. inl (owns_old q r e h)
+      ] refl;
+      not_itself = λ e. no_both _ (same_name_itself home) (not_true _ (and_parts (not (same_name home home)) _ e).0);
+    };
     others_stay = owns_new;
     new_owned = λ r e. e;
-    not_itself = λ e. no_both _ (same_name_itself home) (not_true _ (and_parts (not (same_name home home)) _ e).0);
   }
 
   -- owners don't go round after the write exactly where no bridge that the region then owns was above it
   pub turns : (round after ≡ [] → (b : ObjId) → owns after home b ≡ true → Above s b home → ⊥) × (((b : ObjId) → owns after home b ≡ true → Above s b home → ⊥) → round after ≡ [])
   turns = (
     (λ e b n a. round_after s after home (λ r. owns after home r ≡ true) region_owned b n a (none_above after e)),
-    (λ clear. round_none after (straight_after s after home (λ r. owns after home r ≡ true) region_owned (none_above s t.no_round) clear)),
+    (λ clear. round_none after (straight_after s after home (λ r. owns after home r ≡ true) region_owned.gains (none_above s t.no_round) clear)),
   )

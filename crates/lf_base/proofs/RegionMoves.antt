@@ -30,36 +30,36 @@ module _ (b : ObjId) (w : Owner) where
   pub region_names : (rows : List Row) → names (relabel_region rows b w) ≡ names rows
   region_names [] = refl
   region_names (x ∷ xs) = elim (lies_in b x) as (λ c. (cond c (record x { owner = w }) x).name ∷ names (relabel_region xs b w) ≡ x.name ∷ names xs) [
-      | true ↦ ap (λ l. x.name ∷ l) (region_names xs)
-      | false ↦ ap (λ l. x.name ∷ l) (region_names xs)
-    ]
+    | true ↦ ap (λ l. x.name ∷ l) (region_names xs)
+    | false ↦ ap (λ l. x.name ∷ l) (region_names xs)
+  ]
 
   pub region_edges : (rows : List Row) → rows_edges (relabel_region rows b w) ≡ rows_edges rows
   region_edges [] = refl
   region_edges (x ∷ xs) = elim (lies_in b x) as (λ c. row_edges (cond c (record x { owner = w }) x) ++ rows_edges (relabel_region xs b w) ≡ row_edges x ++ rows_edges xs) [
-      | true ↦ ap (λ l. row_edges x ++ l) (region_edges xs)
-      | false ↦ ap (λ l. row_edges x ++ l) (region_edges xs)
-    ]
+    | true ↦ ap (λ l. row_edges x ++ l) (region_edges xs)
+    | false ↦ ap (λ l. row_edges x ++ l) (region_edges xs)
+  ]
 
   pub region_values : (rows : List Row) → field_values (relabel_region rows b w) ≡ field_values rows
   region_values [] = refl
   region_values (x ∷ xs) = elim (lies_in b x) as (λ c. map (λ (f : Key × Value). f.1) (cond c (record x { owner = w }) x).fields ++ field_values (relabel_region xs b w) ≡ field_values (x ∷ xs)) [
-      | true ↦ ap (λ l. map (λ (f : Key × Value). f.1) x.fields ++ l) (region_values xs)
-      | false ↦ ap (λ l. map (λ (f : Key × Value). f.1) x.fields ++ l) (region_values xs)
-    ]
+    | true ↦ ap (λ l. map (λ (f : Key × Value). f.1) x.fields ++ l) (region_values xs)
+    | false ↦ ap (λ l. map (λ (f : Key × Value). f.1) x.fields ++ l) (region_values xs)
+  ]
 
   pub region_owner : (rows : List Row) (o : ObjId) → owner_in (relabel_region rows b w) o ≡ swapped (owner_in rows o)
   region_owner [] o = refl
   region_owner (x ∷ xs) o = elim (lies_in b x) as (λ c. lies_in b x ≡ c → owner_in (cond c (record x { owner = w }) x ∷ relabel_region xs b w) o ≡ swapped (owner_in (x ∷ xs) o)) [
-      | true ↦ λ e. elim (same_name x.name o) as (λ c. row_owner (cond c (Some (record x { owner = w })) (row_at (relabel_region xs b w) o)) ≡ swapped (row_owner (cond c (Some x) (row_at xs o)))) [
-          | true ↦ ap (λ c. Some (cond c w (x.owner))) (sym e)
-          | false ↦ region_owner xs o
-        ]
-      | false ↦ λ e. elim (same_name x.name o) as (λ c. row_owner (cond c (Some x) (row_at (relabel_region xs b w) o)) ≡ swapped (row_owner (cond c (Some x) (row_at xs o)))) [
-          | true ↦ ap (λ c. Some (cond c w (x.owner))) (sym e)
-          | false ↦ region_owner xs o
-        ]
-    ] refl
+    | true ↦ λ e. elim (same_name x.name o) as (λ c. row_owner (cond c (Some (record x { owner = w })) (row_at (relabel_region xs b w) o)) ≡ swapped (row_owner (cond c (Some x) (row_at xs o)))) [
+      | true ↦ ap (λ c. Some (cond c w (x.owner))) (sym e)
+      | false ↦ region_owner xs o
+    ]
+    | false ↦ λ e. elim (same_name x.name o) as (λ c. row_owner (cond c (Some x) (row_at (relabel_region xs b w) o)) ≡ swapped (row_owner (cond c (Some x) (row_at xs o)))) [
+      | true ↦ ap (λ c. Some (cond c w (x.owner))) (sym e)
+      | false ↦ region_owner xs o
+    ]
+  ] refl
 
   -- an owner that isn't that region's stays
   pub swap_other : (u : Owner) → is_in b (Some u) ≡ false → swapped (Some u) ≡ Some u
@@ -74,7 +74,7 @@ module _ (b : ObjId) (w : Owner) where
     the_new : u ≡ Some (In b) → swapped u ≡ Some w → Became u
     the_same : (v : Owner) → u ≡ Some v → is_in b (Some v) ≡ false → swapped u ≡ Some v → Became u
 
-  in_that : (v : Owner) → is_in b (Some v) ≡ true → v ≡ In b
+  pub in_that : (v : Owner) → is_in b (Some v) ≡ true → v ≡ In b
   in_that Local e = cc
   in_that Frozen e = cc
   in_that (In q) e = ap In (sym (same_name_is b q e))
@@ -82,9 +82,9 @@ module _ (b : ObjId) (w : Owner) where
   pub became : (u : Option Owner) → Became u
   became None = nothing refl refl
   became (Some v) = elim (is_in b (Some v)) as (λ c. is_in b (Some v) ≡ c → Became (Some v)) [
-      | true ↦ λ e. the_new (ap Some (in_that v e)) (ap (λ c. Some (cond c w v)) e)
-      | false ↦ λ e. the_same v refl e (ap (λ c. Some (cond c w v)) e)
-    ] refl
+    | true ↦ λ e. the_new (ap Some (in_that v e)) (ap (λ c. Some (cond c w v)) e)
+    | false ↦ λ e. the_same v refl e (ap (λ c. Some (cond c w v)) e)
+  ] refl
 
   module _ (s : State) (t : WellFormed s) where
     abbrev pub rows : List Row
@@ -125,10 +125,10 @@ module _ (b : ObjId) (w : Owner) where
     keys_after x m =
         let y = Member_of_map (λ (row : Row). cond (lies_in b row) (record row { owner = w }) row) x s.rows m in
         subst (λ (z : Row). Differ same_key (map (λ (f : Key × Value). f.0) z.fields)) y.1.1
-          (elim (lies_in b y.0) as (λ c. Differ same_key (map (λ (f : Key × Value). f.0) (cond c (record (y.0) { owner = w }) (y.0)).fields)) [
-            | true ↦ t.keys_differ y.0 (Member_left y.0 s.rows (s.given ++ s.own) y.1.0)
-            | false ↦ t.keys_differ y.0 (Member_left y.0 s.rows (s.given ++ s.own) y.1.0)
-          ])
+        (elim (lies_in b y.0) as (λ c. Differ same_key (map (λ (f : Key × Value). f.0) (cond c (record (y.0) { owner = w }) (y.0)).fields)) [
+          | true ↦ t.keys_differ y.0 (Member_left y.0 s.rows (s.given ++ s.own) y.1.0)
+          | false ↦ t.keys_differ y.0 (Member_left y.0 s.rows (s.given ++ s.own) y.1.0)
+        ])
 
     mutable_after : (w ≡ Frozen → ⊥) → (x : Row) → Member x rows → x.owner ≡ Frozen → ⊥
     mutable_after n x m h =
@@ -141,19 +141,19 @@ module _ (b : ObjId) (w : Owner) where
     pub moves_keep : (w ≡ Frozen → ⊥) → ((o r : ObjId) → owner_in rows o ≡ Some (In r) → owner_in rows r ≡ Some (In r)) → Leads after
         → ((r : ObjId) → is_bridge rows r ≡ true → owning_edges after r ≤ 1) → NoRound after → WellFormed after
     moves_keep n bridges_stay lead one straight = record {
-        rows_rise = subst (InOrder name_below) (sym (region_names s.rows)) t.rows_rise;
-        given_rise = t.given_rise;
-        own_rise = t.own_rise;
-        names_differ = subst (λ l. Differ same_name (l ++ (names s.given ++ names s.own))) (sym (region_names s.rows)) t.names_differ;
-        keys_differ = λ x m. elim (Member_of_append x rows (s.given ++ s.own) m) [ inl k ↦ keys_after x k | inr k ↦ t.keys_differ x (Member_right x s.rows (s.given ++ s.own) k) ];
-        mutable = mutable_after n;
-        frozen = t.frozen;
-        bridge = bridges_stay;
-        leads = lead;
-        one_owner = one;
-        no_round = round_none after straight;
-        objects_numbered = λ o m. t.objects_numbered o (subst (λ l. Member o (l ++ (names s.given ++ names s.own))) (region_names s.rows) m);
-        cowns_numbered = λ c m. t.cowns_numbered c (subst (λ vs. Member c (own_cowns s ++ flat_map cowns_of_value (slot_values s.slots ++ (vs ++ (content_values s.held ++ (content_values s.made ++ (field_values s.given ++ field_values s.own))))))) (region_values s.rows) m);
-        cowns_differ = t.cowns_differ;
-        made_here = t.made_here
-      }
+      rows_rise = subst (InOrder name_below) (sym (region_names s.rows)) t.rows_rise;
+      given_rise = t.given_rise;
+      own_rise = t.own_rise;
+      names_differ = subst (λ l. Differ same_name (l ++ (names s.given ++ names s.own))) (sym (region_names s.rows)) t.names_differ;
+      keys_differ = λ x m. elim (Member_of_append x rows (s.given ++ s.own) m) [ inl k ↦ keys_after x k | inr k ↦ t.keys_differ x (Member_right x s.rows (s.given ++ s.own) k) ];
+      mutable = mutable_after n;
+      frozen = t.frozen;
+      bridge = bridges_stay;
+      leads = lead;
+      one_owner = one;
+      no_round = round_none after straight;
+      objects_numbered = λ o m. t.objects_numbered o (subst (λ l. Member o (l ++ (names s.given ++ names s.own))) (region_names s.rows) m);
+      cowns_numbered = λ c m. t.cowns_numbered c (subst (λ vs. Member c (own_cowns s ++ flat_map cowns_of_value (slot_values s.slots ++ (vs ++ (content_values s.held ++ (content_values s.made ++ (field_values s.given ++ field_values s.own))))))) (region_values s.rows) m);
+      cowns_differ = t.cowns_differ;
+      made_here = t.made_here;
+    }
