@@ -29,7 +29,7 @@ use Rattle.lf_base.proofs.Watch.{false_by, or_left}
 use Rattle.lf_base.proofs.WriteLaw.{in_not_frozen, in_not_local, local_not_frozen}
 
 -- ---- a row put among others
-inserted : (x : Row) (rows : List Row) (y : Row) → Member y (insert_row x rows) → (x ≡ y) ⊎ Member y rows
+pub inserted : (x : Row) (rows : List Row) (y : Row) → Member y (insert_row x rows) → (x ≡ y) ⊎ Member y rows
 inserted x [] y (inl e) = inl e
 inserted x [] y (inr m) = absurd m
 inserted x (z ∷ zs) y m =
@@ -38,7 +38,7 @@ inserted x (z ∷ zs) y m =
       | false ↦ λ n. elim n [ inl e ↦ inr (inl e) | inr k ↦ elim (inserted x zs y k) [ inl e ↦ inl e | inr j ↦ inr (inr j) ] ]
     ] m
 
-inserted_name : (x : Row) (rows : List Row) (o : ObjId) → Member o (names (insert_row x rows)) → (x.name ≡ o) ⊎ Member o (names rows)
+pub inserted_name : (x : Row) (rows : List Row) (o : ObjId) → Member o (names (insert_row x rows)) → (x.name ≡ o) ⊎ Member o (names rows)
 inserted_name x rows o m =
     let y = Member_of_map (λ (r : Row). r.name) o (insert_row x rows) m in
     elim (inserted x rows y.0 y.1.0) [
@@ -98,7 +98,7 @@ other_below a b n d = is_name_below b a (trichotomy a.birth b.birth a.seq b.seq
     (λ h. no_both _ (is_name_below a b h) n)
     (λ e k. no_both _ ((Decides-same_name a b).1 (λ i. record { birth = e i; seq = k i })) d))
 
-inserted_order : (x : Row) (rows : List Row) → has_row rows x.name ≡ false → InOrder name_below (names rows) → InOrder name_below (names (insert_row x rows))
+pub inserted_order : (x : Row) (rows : List Row) → has_row rows x.name ≡ false → InOrder name_below (names rows) → InOrder name_below (names (insert_row x rows))
 inserted_order x [] h o = tt
 inserted_order x (z ∷ zs) h o =
     elim (name_below x.name z.name) as (λ b. name_below x.name z.name ≡ b → InOrder name_below (names (cond b (x ∷ (z ∷ zs)) (z ∷ insert_row x zs)))) [

@@ -15,12 +15,13 @@ use Rattle.lf_base.specs.Ownership.{Above, below, direct, owns, step}
 use Rattle.lf_base.specs.PlainState.{Row, State}
 use Rattle.lf_base.specs.Sets.{Member, grow, least}
 use Rattle.lf_base.specs.WalkCounts.{borrowed, is_open}
-use Rattle.lf_base.proofs.Dropped.{and_parts}
-use Rattle.lf_base.proofs.Least.{Grows, least_closed, least_in}
+use Rattle.lf_base.proofs.Dropped.{Sub, and_parts, sub_filter}
+use Rattle.lf_base.proofs.Least.{Grows, least_closed, least_in, next}
 use Rattle.lf_base.proofs.Members.{Member_any, any_Member, any_more, or_true}
-use Rattle.lf_base.proofs.MovedRows.{move_start, move_step}
+use Rattle.lf_base.proofs.MovedRows.{joins, move_start, move_step}
 use Rattle.lf_base.proofs.Names.{same_name_is, same_name_itself}
 use Rattle.lf_base.proofs.OwnersGoRound.{bridge_listed}
+use Rattle.lf_base.proofs.RegionMoves.{rows}
 use Rattle.lf_base.proofs.Sets.{Member_filter, Member_of_filter}
 use Rattle.lf_base.proofs.Watch.{local_is, or_left, or_split}
 
@@ -149,3 +150,6 @@ module _ (s : State) (v : Value) where
 
   pub freeze_within : (y : Row) → Member y (freeze_set s v) → Member y s.rows
   freeze_within y m = (Member_of_filter (taken (freeze_set s v)) y s.rows (subst (Member y) (sym (least_closed taken s.rows taken_more)) m)).0
+
+  pub freeze_part : Sub (freeze_set s v) s.rows
+  freeze_part = subst (λ l. Sub l s.rows) (least_closed taken s.rows taken_more) (sub_filter (taken (freeze_set s v)) s.rows)
