@@ -38,9 +38,9 @@ use Rattle.lf_base.proofs.Without.{owner_lost, owner_old, owner_stay, show, some
 all_inserted : (xs ys : List Row) (y : Row) → Member y (insert_rows xs ys) → Member y xs ⊎ Member y ys
 all_inserted [] ys y m = inr m
 all_inserted (x ∷ xs) ys y m = elim (inserted x (insert_rows xs ys) y m) [
-    | inl e ↦ inl (inl e)
-    | inr k ↦ elim (all_inserted xs ys y k) [ inl j ↦ inl (inr j) | inr j ↦ inr j ]
-  ]
+  | inl e ↦ inl (inl e)
+  | inr k ↦ elim (all_inserted xs ys y k) [ inl j ↦ inl (inr j) | inr j ↦ inr j ]
+]
 
 append_assoc : {X : Type 0} (xs ys zs : List X) → xs ++ (ys ++ zs) ≡ (xs ++ ys) ++ zs
 append_assoc [] ys zs = refl
@@ -108,16 +108,17 @@ differ_into [] x ys f g d = differ_row x ys g d
 differ_into (p ∷ os) x ys f g d =
     let apart : same_name p x.name ≡ false = false_by _ (λ e. no_both _ (or_left _ (has_name os x.name) e) f) in
     let rest : has_name os x.name ≡ false = false_by _ (λ e. no_both _ (ap (λ b. same_name p x.name || b) e ∙ or_true _) f) in
-    let old : (has_name os p || has_name (names ys) p) ≡ false = sym (has_append os (names ys) p) ∙ d.0 in
-    (has_append os (names (insert_row x ys)) p ∙ ap (λ b. has_name os p || b) (has_inserted_name x ys p ∙ ap (λ b. b || has_name (names ys) p) (other_way p x.name apart)) ∙ old,
-     differ_into os x ys rest g d.1)
+    let old : (has_name os p || has_name (names ys) p) ≡ false = sym (has_append os (names ys) p) ∙ d.0 in (
+      has_append os (names (insert_row x ys)) p ∙ ap (λ b. has_name os p || b) (has_inserted_name x ys p ∙ ap (λ b. b || has_name (names ys) p) (other_way p x.name apart)) ∙ old,
+      differ_into os x ys rest g d.1,
+    )
 
 differ_all : (os : List ObjId) (xs ys : List Row) → Distinct xs → Apart xs os → Apart xs (names ys) → Differ same_name (os ++ names ys) → Differ same_name (os ++ names (insert_rows xs ys))
 differ_all os [] ys d f g h = h
 differ_all os (x ∷ xs) ys d f g h =
     differ_into os x (insert_rows xs ys) (f x (inl refl))
-      (has_names (insert_rows xs ys) x.name ∙ none_here xs ys x.name d.0 (sym (has_names ys x.name) ∙ g x (inl refl)))
-      (differ_all os xs ys d.1 (λ y m. f y (inr m)) (λ y m. g y (inr m)) h)
+    (has_names (insert_rows xs ys) x.name ∙ none_here xs ys x.name d.0 (sym (has_names ys x.name) ∙ g x (inl refl)))
+    (differ_all os xs ys d.1 (λ y m. f y (inr m)) (λ y m. g y (inr m)) h)
 
 distinct_sub : {xs ys : List Row} → Sub xs ys → Distinct ys → Distinct xs
 distinct_sub none d = d
@@ -195,11 +196,11 @@ module _ (s : State) (v : Value) (t : WellFormed s) where
   differ_after : Differ same_name (all_names after)
   differ_after =
       let left : Differ same_name ((names rows ++ names s.given) ++ names s.own) =
-          subst (Differ same_name) (append_assoc (names rows) (names s.given) (names s.own)) (differ_sub same_name (sub_append (sub_map (λ (r : Row). r.name) rows_part) (sub_all (names s.given ++ names s.own))) t.names_differ) in
+      subst (Differ same_name) (append_assoc (names rows) (names s.given) (names s.own)) (differ_sub same_name (sub_append (sub_map (λ (r : Row). r.name) rows_part) (sub_all (names s.given ++ names s.own))) t.names_differ) in
       subst (Differ same_name) (sym (append_assoc (names rows) (names s.given) (names own)))
-        (differ_all (names rows ++ names s.given) cold s.own set_distinct
-          (λ x m. has_append (names rows) (names s.given) x.name ∙ or_no _ _ (not_left x.name (cold_gone x m)) (not_given x.name (cold_gone x m)))
-          cold_apart left)
+      (differ_all (names rows ++ names s.given) cold s.own set_distinct
+      (λ x m. has_append (names rows) (names s.given) x.name ∙ or_no _ _ (not_left x.name (cold_gone x m)) (not_given x.name (cold_gone x m)))
+      cold_apart left)
 
   -- ---- owners after
   gone_owner : (o : ObjId) → gone o ≡ true → owner_of after o ≡ Some Frozen
@@ -227,24 +228,24 @@ module _ (s : State) (v : Value) (t : WellFormed s) where
 
   edge_before : (e : Edge) → Member e (edges after) → Member e (edges s)
   edge_before e m = elim (Member_of_append e (slot_edges s.slots) _ m) [
-      | inl k ↦ Member_left e (slot_edges s.slots) _ k
-      | inr k ↦ Member_right e (slot_edges s.slots) _ (elim (Member_of_append e (rows_edges rows) _ k) [
-          | inl n ↦ Member_left e (rows_edges s.rows) _ (Within_flat_map row_edges rows s.rows (sub_within rows_part) e n)
-          | inr n ↦ elim (Member_of_append e (content_edges s.held) _ n) [
-              | inl q ↦ Member_right e (rows_edges s.rows) _ (Member_left e (content_edges s.held) _ q)
-              | inr q ↦ elim (Member_of_append e (content_edges s.made) _ q) [
-                  | inl z ↦ Member_right e (rows_edges s.rows) _ (Member_right e (content_edges s.held) _ (Member_left e (content_edges s.made) _ z))
-                  | inr z ↦ elim (Member_of_append e (rows_edges s.given) (rows_edges own) z) [
-                      | inl y ↦ Member_right e (rows_edges s.rows) _ (Member_right e (content_edges s.held) _ (Member_right e (content_edges s.made) _ (Member_left e (rows_edges s.given) _ y)))
-                      | inr y ↦ elim (own_edge e y) [
-                          | inl w ↦ Member_left e (rows_edges s.rows) _ w
-                          | inr w ↦ Member_right e (rows_edges s.rows) _ (Member_right e (content_edges s.held) _ (Member_right e (content_edges s.made) _ (Member_right e (rows_edges s.given) (rows_edges s.own) w)))
-                        ]
-                    ]
-                ]
+    | inl k ↦ Member_left e (slot_edges s.slots) _ k
+    | inr k ↦ Member_right e (slot_edges s.slots) _ (elim (Member_of_append e (rows_edges rows) _ k) [
+      | inl n ↦ Member_left e (rows_edges s.rows) _ (Within_flat_map row_edges rows s.rows (sub_within rows_part) e n)
+      | inr n ↦ elim (Member_of_append e (content_edges s.held) _ n) [
+        | inl q ↦ Member_right e (rows_edges s.rows) _ (Member_left e (content_edges s.held) _ q)
+        | inr q ↦ elim (Member_of_append e (content_edges s.made) _ q) [
+          | inl z ↦ Member_right e (rows_edges s.rows) _ (Member_right e (content_edges s.held) _ (Member_left e (content_edges s.made) _ z))
+          | inr z ↦ elim (Member_of_append e (rows_edges s.given) (rows_edges own) z) [
+            | inl y ↦ Member_right e (rows_edges s.rows) _ (Member_right e (content_edges s.held) _ (Member_right e (content_edges s.made) _ (Member_left e (rows_edges s.given) _ y)))
+            | inr y ↦ elim (own_edge e y) [
+              | inl w ↦ Member_left e (rows_edges s.rows) _ w
+              | inr w ↦ Member_right e (rows_edges s.rows) _ (Member_right e (content_edges s.held) _ (Member_right e (content_edges s.made) _ (Member_right e (rows_edges s.given) (rows_edges s.own) w)))
             ]
-        ])
-    ]
+          ]
+        ]
+      ]
+    ])
+  ]
 
   in_set : (y : Row) → Member y s.rows → gone y.name ≡ true → Member y set
   in_set y m e = let x = named set y.name e in subst (λ z. Member z set) (same_row s.rows rows_distinct x.0 y (freeze_within s v x.0 x.1.0) m x.1.1) x.1.0
@@ -286,35 +287,35 @@ module _ (s : State) (v : Value) (t : WellFormed s) where
   -- from a row of the set
   gone_lead : (e : Edge) → Member e (edges s) → (p : ObjId) → e.from ≡ Field p → gone p ≡ true → from_row (owner_of after p) e.to (owner_of after e.to) ≡ true
   gone_lead e m p f g = elim (begins s e m) [
-      | at_slot h n ↦ let z = sym h ∙ f in cc
-      | at_content d h n ↦ let z = sym h ∙ f in cc
-      | at_frozen x n h ↦
-          let same : x.name ≡ p = field_is x.name p (sym h ∙ f) in
-          let w = owner_there s.rows rows_distinct p (gone_row p g) in
-          absurd (some_none w.owner (sym ((setting_of s t).apart p (subst (λ z. (has_row s.given z || has_row s.own z) ≡ true) same n)) ∙ w.is))
-      | at_row x n h b ↦
-          let y = edge_row s.rows e b in
-          let here : Member y.row set = in_set y.row y.mem (ap gone (field_is (y.row).name p (sym y.from ∙ f)) ∙ g) in
-          (λ i. from_row (gone_owner p g i) e.to (set_leads y.row here e.to y.to (owner_in s.rows e.to) refl (lead_there s e.from e.to (t.leads e m)) i))
-    ]
+    | at_slot h n ↦ let z = sym h ∙ f in cc
+    | at_content d h n ↦ let z = sym h ∙ f in cc
+    | at_frozen x n h ↦
+        let same : x.name ≡ p = field_is x.name p (sym h ∙ f) in
+        let w = owner_there s.rows rows_distinct p (gone_row p g) in
+        absurd (some_none w.owner (sym ((setting_of s t).apart p (subst (λ z. (has_row s.given z || has_row s.own z) ≡ true) same n)) ∙ w.is))
+    | at_row x n h b ↦
+        let y = edge_row s.rows e b in
+        let here : Member y.row set = in_set y.row y.mem (ap gone (field_is (y.row).name p (sym y.from ∙ f)) ∙ g) in
+        (λ i. from_row (gone_owner p g i) e.to (set_leads y.row here e.to y.to (owner_in s.rows e.to) refl (lead_there s e.from e.to (t.leads e m)) i))
+  ]
 
   row_lead : (e : Edge) → Member e (edges s) → (p : ObjId) → e.from ≡ Field p → may_lead s (Field p) e.to ≡ true → may_lead after (Field p) e.to ≡ true
   row_lead e m p f l = elim (gone p) as (λ b. gone p ≡ b → from_row (owner_of after p) e.to (owner_of after e.to) ≡ true) [
-      | true ↦ λ g. gone_lead e m p f g
-      | false ↦ λ n. left_lead p e.to n l
-    ] refl
+    | true ↦ λ g. gone_lead e m p f g
+    | false ↦ λ n. left_lead p e.to n l
+  ] refl
 
   content_lead : (o : ObjId) → from_content o (owner_of s o) ≡ true → from_content o (owner_of after o) ≡ true
   content_lead o l = elim (gone o) as (λ b. gone o ≡ b → from_content o (owner_of after o) ≡ true) [
-      | true ↦ λ e. ap (from_content o) (gone_owner o e)
-      | false ↦ λ e. ap (from_content o) (left_owner o e) ∙ l
-    ] refl
+    | true ↦ λ e. ap (from_content o) (gone_owner o e)
+    | false ↦ λ e. ap (from_content o) (left_owner o e) ∙ l
+  ] refl
 
   slot_lead : (o : ObjId) → from_near (owner_of s o) ≡ true → from_near (owner_of after o) ≡ true
   slot_lead o l = elim (gone o) as (λ b. gone o ≡ b → from_near (owner_of after o) ≡ true) [
-      | true ↦ λ e. ap from_near (gone_owner o e)
-      | false ↦ λ e. ap from_near (left_owner o e) ∙ l
-    ] refl
+    | true ↦ λ e. ap from_near (gone_owner o e)
+    | false ↦ λ e. ap from_near (left_owner o e) ∙ l
+  ] refl
 
   lead_on : (e : Edge) → Member e (edges s) → (f : Source) → e.from ≡ f → may_lead s f e.to ≡ true → may_lead after f e.to ≡ true
   lead_on e m Slot h l = slot_lead e.to l
@@ -329,13 +330,13 @@ module _ (s : State) (v : Value) (t : WellFormed s) where
       let k = owner_old s.rows gone o (In r) h in
       let top : owner_in s.rows r ≡ Some (In r) = t.bridge o r k.1 in
       owner_stay s.rows gone r (false_by _ (λ e.
-        let y = row_of s.rows o (In r) k.1 in
-        let x = row_of s.rows r (In r) top in
-        let here : Member x.row set = in_set x.row x.mem (ap gone x.name ∙ e) in
-        let is : is_in (x.row).name (Some ((x.row).owner)) ≡ true = (λ i. is_in (x.name i) (Some (x.owner i))) ∙ same_name_itself r in
-        let there : is_in (x.row).name (Some ((y.row).owner)) ≡ true = (λ i. is_in (x.name i) (Some (y.owner i))) ∙ same_name_itself r in
-        let brought : brings_in x.row y.row ≡ true = ap (λ b. has_name (field_targets (x.row).fields) (y.row).name || b) (and_join _ _ is there) ∙ or_true _ in
-        no_both _ (sym (ap gone y.name) ∙ mem_has y.row set ((freeze_closed s v).next x.row y.row here y.mem brought)) k.0)) ∙ top
+      let y = row_of s.rows o (In r) k.1 in
+      let x = row_of s.rows r (In r) top in
+      let here : Member x.row set = in_set x.row x.mem (ap gone x.name ∙ e) in
+      let is : is_in (x.row).name (Some ((x.row).owner)) ≡ true = (λ i. is_in (x.name i) (Some (x.owner i))) ∙ same_name_itself r in
+      let there : is_in (x.row).name (Some ((y.row).owner)) ≡ true = (λ i. is_in (x.name i) (Some (y.owner i))) ∙ same_name_itself r in
+      let brought : brings_in x.row y.row ≡ true = ap (λ b. has_name (field_targets (x.row).fields) (y.row).name || b) (and_join _ _ is there) ∙ or_true _ in
+      no_both _ (sym (ap gone y.name) ∙ mem_has y.row set ((freeze_closed s v).next x.row y.row here y.mem brought)) k.0)) ∙ top
 
   owning_before : (f : Source) (r : ObjId) → is_owning rows f r ≡ true → is_owning s.rows f r ≡ true
   owning_before Slot r e = e
@@ -345,11 +346,11 @@ module _ (s : State) (v : Value) (t : WellFormed s) where
   -- no frozen row owns
   own_no_row : (x : Row) → Member x own → owner_in rows x.name ≡ None
   own_no_row x m = elim (all_inserted cold s.own x m) [
-      | inl k ↦ owner_lost s.rows gone x.name (cold_gone x k)
-      | inr k ↦
-          let other : gone x.name ≡ false = false_by _ (λ e. no_both _ (has_names s.own x.name ∙ mem_has x s.own k) (not_own x.name e)) in
-          owner_stay s.rows gone x.name other ∙ (setting_of s t).apart x.name (ap (λ b. has_row s.given x.name || b) (mem_has x s.own k) ∙ or_true _)
-    ]
+    | inl k ↦ owner_lost s.rows gone x.name (cold_gone x k)
+    | inr k ↦
+        let other : gone x.name ≡ false = false_by _ (λ e. no_both _ (has_names s.own x.name ∙ mem_has x s.own k) (not_own x.name e)) in
+        owner_stay s.rows gone x.name other ∙ (setting_of s t).apart x.name (ap (λ b. has_row s.given x.name || b) (mem_has x s.own k) ∙ or_true _)
+  ]
 
   none_owns : (r : ObjId) → count_by (λ (e : Edge). is_owning rows e.from r && same_name e.to r) (rows_edges own) ≡ 0
   none_owns r = none_count (λ (e : Edge). is_owning rows e.from r && same_name e.to r) (rows_edges own) (λ e m.
@@ -363,7 +364,8 @@ module _ (s : State) (v : Value) (t : WellFormed s) where
       let pq : (e : Edge) → p e ≡ true → q e ≡ true = λ e h. let k = and_parts (is_owning rows e.from r) (same_name e.to r) h in and_join _ _ (owning_before e.from r k.0) k.1 in
       let f : Edge → ℕ = λ e. cond (p e) 1 0 in
       let g : Edge → ℕ = λ e. cond (q e) 1 0 in
-      omega (arith,
+      omega (
+        arith,
         sum_by-append f (slot_edges s.slots) (rows_edges rows ++ (content_edges s.held ++ (content_edges s.made ++ (rows_edges s.given ++ rows_edges own)))),
         sum_by-append f (rows_edges rows) (content_edges s.held ++ (content_edges s.made ++ (rows_edges s.given ++ rows_edges own))),
         sum_by-append f (content_edges s.held) (content_edges s.made ++ (rows_edges s.given ++ rows_edges own)),
@@ -374,8 +376,13 @@ module _ (s : State) (v : Value) (t : WellFormed s) where
         sum_by-append g (content_edges s.held) (content_edges s.made ++ (rows_edges s.given ++ rows_edges s.own)),
         sum_by-append g (content_edges s.made) (rows_edges s.given ++ rows_edges s.own),
         sum_by-append g (rows_edges s.given) (rows_edges s.own),
-        count_sub p q pq (sub_all (slot_edges s.slots)), count_sub p q pq (sub_flat_map row_edges rows_part), count_sub p q pq (sub_all (content_edges s.held)),
-        count_sub p q pq (sub_all (content_edges s.made)), count_sub p q pq (sub_all (rows_edges s.given)), none_owns r)
+        count_sub p q pq (sub_all (slot_edges s.slots)),
+        count_sub p q pq (sub_flat_map row_edges rows_part),
+        count_sub p q pq (sub_all (content_edges s.held)),
+        count_sub p q pq (sub_all (content_edges s.made)),
+        count_sub p q pq (sub_all (rows_edges s.given)),
+        none_owns r,
+      )
 
   from_before : (q : ObjId) (f : Source) → is_from rows q f ≡ true → is_from s.rows q f ≡ true
   from_before q Slot e = e
@@ -389,7 +396,7 @@ module _ (s : State) (v : Value) (t : WellFormed s) where
       let x = any_Member (λ (d : Edge). is_from rows q d.from && same_name d.to r) (edges after) b.1 in
       let p = and_parts (is_from rows q (x.0).from) (same_name (x.0).to r) x.1.1 in
       and_join _ _ a.0 (and_join _ _ (show (is_in r) refl s.rows gone r b.0)
-        (Member_any (λ (d : Edge). is_from s.rows q d.from && same_name d.to r) x.0 (edges s) (edge_before x.0 x.1.0) (and_join _ _ (from_before q (x.0).from p.0) p.1)))
+      (Member_any (λ (d : Edge). is_from s.rows q d.from && same_name d.to r) x.0 (edges s) (edge_before x.0 x.1.0) (and_join _ _ (from_before q (x.0).from p.0) p.1)))
 
   above_before : {q r : ObjId} → Above after q r → Above s q r
   above_before (direct {q} {r} e) = direct (owns_before q r e)
@@ -398,45 +405,45 @@ module _ (s : State) (v : Value) (t : WellFormed s) where
   -- ---- names, keys and values after
   own_row : (x : Row) → Member x own → ((y : Row) × (Member y s.rows × (frozen_row y ≡ x))) ⊎ Member x s.own
   own_row x m = elim (all_inserted cold s.own x m) [
-      | inl k ↦ let y = cold_row x k in inl (y.0, (freeze_within s v y.0 y.1.0, y.1.1))
-      | inr k ↦ inr k
-    ]
+    | inl k ↦ let y = cold_row x k in inl (y.0, (freeze_within s v y.0 y.1.0, y.1.1))
+    | inr k ↦ inr k
+  ]
 
   keys_own : (x : Row) → Member x own → Differ same_key (map (λ (f : Key × Value). f.0) x.fields)
   keys_own x m = elim (own_row x m) [
-      | inl y ↦ subst (λ (z : Row). Differ same_key (map (λ (f : Key × Value). f.0) z.fields)) y.1.1 (t.keys_differ y.0 (Member_left y.0 s.rows (s.given ++ s.own) y.1.0))
-      | inr k ↦ t.keys_differ x (Member_right x s.rows (s.given ++ s.own) (Member_right x s.given s.own k))
-    ]
+    | inl y ↦ subst (λ (z : Row). Differ same_key (map (λ (f : Key × Value). f.0) z.fields)) y.1.1 (t.keys_differ y.0 (Member_left y.0 s.rows (s.given ++ s.own) y.1.0))
+    | inr k ↦ t.keys_differ x (Member_right x s.rows (s.given ++ s.own) (Member_right x s.given s.own k))
+  ]
 
   keys_after : (x : Row) → Member x (rows ++ (s.given ++ own)) → Differ same_key (map (λ (f : Key × Value). f.0) x.fields)
   keys_after x m = elim (Member_of_append x rows (s.given ++ own) m) [
-      | inl k ↦ t.keys_differ x (Member_left x s.rows (s.given ++ s.own) (sub_within rows_part x k))
-      | inr k ↦ elim (Member_of_append x s.given own k) [
-          | inl n ↦ t.keys_differ x (Member_right x s.rows (s.given ++ s.own) (Member_left x s.given s.own n))
-          | inr n ↦ keys_own x n
-        ]
+    | inl k ↦ t.keys_differ x (Member_left x s.rows (s.given ++ s.own) (sub_within rows_part x k))
+    | inr k ↦ elim (Member_of_append x s.given own k) [
+      | inl n ↦ t.keys_differ x (Member_right x s.rows (s.given ++ s.own) (Member_left x s.given s.own n))
+      | inr n ↦ keys_own x n
     ]
+  ]
 
   frozen_after : (x : Row) → Member x (s.given ++ own) → x.owner ≡ Frozen
   frozen_after x m = elim (Member_of_append x s.given own m) [
-      | inl k ↦ t.frozen x (Member_left x s.given s.own k)
-      | inr k ↦ elim (own_row x k) [
-          | inl y ↦ ap (λ (z : Row). z.owner) (sym y.1.1)
-          | inr n ↦ t.frozen x (Member_right x s.given s.own n)
-        ]
+    | inl k ↦ t.frozen x (Member_left x s.given s.own k)
+    | inr k ↦ elim (own_row x k) [
+      | inl y ↦ ap (λ (z : Row). z.owner) (sym y.1.1)
+      | inr n ↦ t.frozen x (Member_right x s.given s.own n)
     ]
+  ]
 
   name_before : (o : ObjId) → Member o (all_names after) → Member o (all_names s)
   name_before o m = elim (Member_of_append o (names rows) (names s.given ++ names own) m) [
-      | inl k ↦ Member_left o (names s.rows) _ (sub_within (sub_map (λ (r : Row). r.name) rows_part) o k)
-      | inr k ↦ elim (Member_of_append o (names s.given) (names own) k) [
-          | inl n ↦ Member_right o (names s.rows) _ (Member_left o (names s.given) (names s.own) n)
-          | inr n ↦ let x = Member_of_map (λ (r : Row). r.name) o own n in elim (own_row x.0 x.1.0) [
-              | inl y ↦ Member_left o (names s.rows) _ (subst (λ z. Member z (names s.rows)) (ap (λ (z : Row). z.name) y.1.1 ∙ x.1.1) (Member_map (λ (r : Row). r.name) y.0 s.rows y.1.0))
-              | inr h ↦ Member_right o (names s.rows) _ (Member_right o (names s.given) (names s.own) (subst (λ z. Member z (names s.own)) x.1.1 (Member_map (λ (r : Row). r.name) x.0 s.own h)))
-            ]
-        ]
+    | inl k ↦ Member_left o (names s.rows) _ (sub_within (sub_map (λ (r : Row). r.name) rows_part) o k)
+    | inr k ↦ elim (Member_of_append o (names s.given) (names own) k) [
+      | inl n ↦ Member_right o (names s.rows) _ (Member_left o (names s.given) (names s.own) n)
+      | inr n ↦ let x = Member_of_map (λ (r : Row). r.name) o own n in elim (own_row x.0 x.1.0) [
+        | inl y ↦ Member_left o (names s.rows) _ (subst (λ z. Member z (names s.rows)) (ap (λ (z : Row). z.name) y.1.1 ∙ x.1.1) (Member_map (λ (r : Row). r.name) y.0 s.rows y.1.0))
+        | inr h ↦ Member_right o (names s.rows) _ (Member_right o (names s.given) (names s.own) (subst (λ z. Member z (names s.own)) x.1.1 (Member_map (λ (r : Row). r.name) x.0 s.own h)))
+      ]
     ]
+  ]
 
   abbrev row_values : Row → List Value
   row_values r = map (λ (f : Key × Value). f.1) r.fields
@@ -451,46 +458,46 @@ module _ (s : State) (v : Value) (t : WellFormed s) where
 
   value_before : (w : Value) → Member w (all_values after) → Member w (all_values s)
   value_before w m = elim (Member_of_append w (slot_values s.slots) _ m) [
-      | inl k ↦ Member_left w (slot_values s.slots) _ k
-      | inr k ↦ Member_right w (slot_values s.slots) _ (elim (Member_of_append w (field_values rows) _ k) [
-          | inl n ↦ Member_left w (field_values s.rows) _ (Within_flat_map row_values rows s.rows (sub_within rows_part) w n)
-          | inr n ↦ elim (Member_of_append w (content_values s.held) _ n) [
-              | inl q ↦ Member_right w (field_values s.rows) _ (Member_left w (content_values s.held) _ q)
-              | inr q ↦ elim (Member_of_append w (content_values s.made) _ q) [
-                  | inl z ↦ Member_right w (field_values s.rows) _ (Member_right w (content_values s.held) _ (Member_left w (content_values s.made) _ z))
-                  | inr z ↦ elim (Member_of_append w (field_values s.given) (field_values own) z) [
-                      | inl y ↦ Member_right w (field_values s.rows) _ (Member_right w (content_values s.held) _ (Member_right w (content_values s.made) _ (Member_left w (field_values s.given) _ y)))
-                      | inr y ↦ elim (own_value w y) [
-                          | inl h ↦ Member_left w (field_values s.rows) _ h
-                          | inr h ↦ Member_right w (field_values s.rows) _ (Member_right w (content_values s.held) _ (Member_right w (content_values s.made) _ (Member_right w (field_values s.given) (field_values s.own) h)))
-                        ]
-                    ]
-                ]
+    | inl k ↦ Member_left w (slot_values s.slots) _ k
+    | inr k ↦ Member_right w (slot_values s.slots) _ (elim (Member_of_append w (field_values rows) _ k) [
+      | inl n ↦ Member_left w (field_values s.rows) _ (Within_flat_map row_values rows s.rows (sub_within rows_part) w n)
+      | inr n ↦ elim (Member_of_append w (content_values s.held) _ n) [
+        | inl q ↦ Member_right w (field_values s.rows) _ (Member_left w (content_values s.held) _ q)
+        | inr q ↦ elim (Member_of_append w (content_values s.made) _ q) [
+          | inl z ↦ Member_right w (field_values s.rows) _ (Member_right w (content_values s.held) _ (Member_left w (content_values s.made) _ z))
+          | inr z ↦ elim (Member_of_append w (field_values s.given) (field_values own) z) [
+            | inl y ↦ Member_right w (field_values s.rows) _ (Member_right w (content_values s.held) _ (Member_right w (content_values s.made) _ (Member_left w (field_values s.given) _ y)))
+            | inr y ↦ elim (own_value w y) [
+              | inl h ↦ Member_left w (field_values s.rows) _ h
+              | inr h ↦ Member_right w (field_values s.rows) _ (Member_right w (content_values s.held) _ (Member_right w (content_values s.made) _ (Member_right w (field_values s.given) (field_values s.own) h)))
             ]
-        ])
-    ]
+          ]
+        ]
+      ]
+    ])
+  ]
 
   cown_before : (c : CownId) → Member c (all_cowns after) → Member c (all_cowns s)
   cown_before c m = elim (Member_of_append c (own_cowns s) (flat_map cowns_of_value (all_values after)) m) [
-      | inl k ↦ Member_left c (own_cowns s) (flat_map cowns_of_value (all_values s)) k
-      | inr k ↦ Member_right c (own_cowns s) (flat_map cowns_of_value (all_values s)) (Within_flat_map cowns_of_value (all_values after) (all_values s) value_before c k)
-    ]
+    | inl k ↦ Member_left c (own_cowns s) (flat_map cowns_of_value (all_values s)) k
+    | inr k ↦ Member_right c (own_cowns s) (flat_map cowns_of_value (all_values s)) (Within_flat_map cowns_of_value (all_values after) (all_values s) value_before c k)
+  ]
 
   pub freeze_keeps : WellFormed after
   freeze_keeps = record {
-      rows_rise = order_sub name_below name_below_trans (sub_map (λ (r : Row). r.name) rows_part) t.rows_rise;
-      given_rise = t.given_rise;
-      own_rise = all_order cold s.own set_distinct cold_apart t.own_rise;
-      names_differ = differ_after;
-      keys_differ = keys_after;
-      mutable = λ x m. t.mutable x (sub_within rows_part x m);
-      frozen = frozen_after;
-      bridge = bridge_after;
-      leads = leads_after;
-      one_owner = λ r b. let one = t.one_owner r (show (is_in r) refl s.rows gone r b) in omega (arith, one, fewer r);
-      no_round = round_none after (λ r a. none_above s t.no_round r (above_before a));
-      objects_numbered = λ o m. t.objects_numbered o (name_before o m);
-      cowns_numbered = λ c m. t.cowns_numbered c (cown_before c m);
-      cowns_differ = t.cowns_differ;
-      made_here = t.made_here
-    }
+    rows_rise = order_sub name_below name_below_trans (sub_map (λ (r : Row). r.name) rows_part) t.rows_rise;
+    given_rise = t.given_rise;
+    own_rise = all_order cold s.own set_distinct cold_apart t.own_rise;
+    names_differ = differ_after;
+    keys_differ = keys_after;
+    mutable = λ x m. t.mutable x (sub_within rows_part x m);
+    frozen = frozen_after;
+    bridge = bridge_after;
+    leads = leads_after;
+    one_owner = λ r b. let one = t.one_owner r (show (is_in r) refl s.rows gone r b) in omega (arith, one, fewer r);
+    no_round = round_none after (λ r a. none_above s t.no_round r (above_before a));
+    objects_numbered = λ o m. t.objects_numbered o (name_before o m);
+    cowns_numbered = λ c m. t.cowns_numbered c (cown_before c m);
+    cowns_differ = t.cowns_differ;
+    made_here = t.made_here;
+  }

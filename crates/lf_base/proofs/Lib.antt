@@ -7,6 +7,7 @@ pub mod DissolveWhole
 pub mod Dropped
 pub mod EndWhole
 pub mod FewerFields
+pub mod FirstState
 pub mod FreezeWhole
 pub mod FurtherSlot
 pub mod Goes

@@ -1,5 +1,5 @@
 -- Two regions that may be merged leave a well-formed state.
-use Rattle.std.proofs.Common.{Bool, List, None, Option, Some, [], ap, arith, cond, false, inl, inr, not, refl, subst, sym, true, ℕ, ◌&&◌, ◌||◌, ◌∙◌, ◌∷◌, ◌≡◌, ◌≤◌, ◌⊎◌}
+use Rattle.std.proofs.Common.{Bool, List, None, Option, Some, [], ap, ap₂, arith, cond, false, inl, inr, not, refl, subst, sym, true, ℕ, ◌&&◌, ◌||◌, ◌∙◌, ◌∷◌, ◌≡◌, ◌≤◌, ◌⊎◌}
 use Rattle.std.proofs.lemmas.List.Sums.{sum_by-cons}
 use Rattle.std.specs.List.{count_by}
 use Rattle.lf_base.specs.declared.faults.Fault.{Fault}
@@ -8,15 +8,18 @@ use Rattle.lf_base.specs.declared.ids.CownId.{CownId}
 use Rattle.lf_base.specs.declared.ids.ObjId.{ObjId}
 use Rattle.lf_base.specs.declared.values.Owner.{Owner}
 use Rattle.lf_base.specs.declared.values.Owner.TheVariants.{Frozen, In, Local}
+use Rattle.lf_base.specs.declared.values.Value.{Value}
+use Rattle.lf_base.specs.DissolveResult.{dissolve_refusal, dissolve_refusal_by, dissolve_result}
 use Rattle.lf_base.specs.Edges.{Content, Edge, Field, Slot, Source, edges}
-use Rattle.lf_base.specs.MergeResult.{is_owned_elsewhere, is_owning_elsewhere, lies_in, merge_fault, merge_result, relabel_region}
-use Rattle.lf_base.specs.Names.{same_name}
-use Rattle.lf_base.specs.Owners.{has_name, has_row, is_bridge, is_in, or_frozen, owner_in, owner_of}
-use Rattle.lf_base.specs.Ownership.{Above, NoRound, below, direct, is_from, is_in_other, is_owning, owning_edges, owns, step}
+use Rattle.lf_base.specs.MergeResult.{is_owned_elsewhere, is_owning_elsewhere, lies_in, merge_fault, merge_refusal, merge_refusal_by, merge_result, relabel_region}
+use Rattle.lf_base.specs.Names.{same_name, targets_of_value}
+use Rattle.lf_base.specs.Owners.{bridge_of, first_bridge, has_name, has_row, is_bridge, is_in, or_frozen, owner_in, owner_of}
+use Rattle.lf_base.specs.Ownership.{Above, NoRound, below, direct, is_from, is_in_other, is_owned, is_owning, owning_edges, owns, step}
 use Rattle.lf_base.specs.PlainState.{Row, State}
 use Rattle.lf_base.specs.Sets.{Member}
 use Rattle.lf_base.specs.WellFormed.{Leads, WellFormed, from_content, from_frozen, from_inner, from_row, may_lead}
 use Rattle.lf_base.proofs.Climb.{straight_after}
+use Rattle.lf_base.proofs.DissolveWhole.{dissolve_keeps}
 use Rattle.lf_base.proofs.Dropped.{and_join, and_parts, in_region, some_is, sub_all}
 use Rattle.lf_base.proofs.Lookup.{in_is, no_both, owner_is}
 use Rattle.lf_base.proofs.Members.{Member_any, any_Member, or_true}
@@ -292,3 +295,19 @@ merge_keeps s a b t ha hb e =
           let q = cond_none (has_name (below s b) a && not (owns s b a)) Cycle None p.1 in
           merge_keeps_two s t a b (in_region a (owner_in s.rows a) ha) (in_region b (owner_in s.rows b) hb) h p.0 q.0
     ] refl e
+
+-- ---- by the values that the script names
+bridge_at : (s : State) (os : List ObjId) (r : ObjId) → first_bridge s os ≡ Some r → is_bridge s.rows r ≡ true
+bridge_at s [] r e = cc
+bridge_at s (o ∷ os) r e = elim (is_bridge s.rows o) as (λ c. is_bridge s.rows o ≡ c → cond c (Some o) None ≡ Some r → is_bridge s.rows r ≡ true) [
+  | true ↦ λ h k. subst (λ z. is_bridge s.rows z ≡ true) (some_is o r k) h
+  | false ↦ λ h k. absurd (not_some r (sym k))
+] refl e
+
+pub merge_values : (s : State) (v u : Value) (a b : ObjId) → WellFormed s → bridge_of s v ≡ Some a → bridge_of s u ≡ Some b → merge_refusal s v u ≡ None → WellFormed (merge_result s a b)
+merge_values s v u a b t ha hb e =
+    merge_keeps s a b t (bridge_at s (targets_of_value v) a ha) (bridge_at s (targets_of_value u) b hb) (ap₂ (merge_refusal_by s) (sym ha) (sym hb) ∙ e)
+
+pub dissolve_values : (s : State) (v : Value) (r : ObjId) → WellFormed s → bridge_of s v ≡ Some r → dissolve_refusal s v ≡ None → WellFormed (dissolve_result s r)
+dissolve_values s v r t h e =
+    dissolve_keeps s t r (in_region r (owner_in s.rows r) (bridge_at s (targets_of_value v) r h)) (cond_none (is_owned s r) Owned None (ap (dissolve_refusal_by s) (sym h) ∙ e)).0

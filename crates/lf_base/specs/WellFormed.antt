@@ -6,9 +6,9 @@ use Rattle.lf_base.specs.declared.ids.ObjId.{ObjId}
 use Rattle.lf_base.specs.declared.values.Owner.{Owner}
 use Rattle.lf_base.specs.declared.values.Owner.TheVariants.{Frozen, In, Local}
 use Rattle.lf_base.specs.declared.values.Value.{Value}
-use Rattle.lf_base.specs.Edges.{Content, Edge, Field, Slot, Source, edges}
+use Rattle.lf_base.specs.Edges.{Content, Edge, Field, Slot, Source, edges, rows_edges}
 use Rattle.lf_base.specs.Names.{cowns_of_value, name_below, same_cown, same_key, same_name, targets_of_value}
-use Rattle.lf_base.specs.Owners.{is_bridge, names, owner_in, owner_of}
+use Rattle.lf_base.specs.Owners.{has_row, is_bridge, names, owner_in, owner_of}
 use Rattle.lf_base.specs.Ownership.{owning_edges, round}
 use Rattle.lf_base.specs.PlainState.{Row, State}
 use Rattle.lf_base.specs.Sets.{Differ, InOrder, Member}
@@ -114,3 +114,12 @@ pub record WellFormed (s : State) : Type 0 where
 pub record SlotMayHold (s : State) (v : Value) : Type 0 where
   pub object_there : (o : ObjId) → Member o (targets_of_value v) → from_near (owner_of s o) ≡ true
   pub cown_numbered : (c : CownId) → Member c (cowns_of_value v) → c.birth ≡ s.birth → IsNumber c.seq s.cowns
+
+-- the frozen rows that a behaviour of that number may be given: by rising name, whole among themselves, and without a name of that birth
+pub record MayBeGiven (birth : ℕ) (given : List Row) : Type 0 where
+  pub rise : InOrder name_below (names given)
+  pub keys_differ : (x : Row) → Member x given → Differ same_key (map (λ f. f.0) x.fields)
+  pub frozen : (x : Row) → Member x given → x.owner ≡ Frozen
+  pub leads : (e : Edge) → Member e (rows_edges given) → has_row given e.to ≡ true
+  pub no_object : (o : ObjId) → Member o (names given) → o.birth ≡ birth → ⊥
+  pub no_cown : (c : CownId) → Member c (flat_map cowns_of_value (field_values given)) → c.birth ≡ birth → ⊥

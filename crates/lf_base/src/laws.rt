@@ -8,21 +8,23 @@ ghost use Rattle.lf_base.specs.declared.values.Key.{Key};
 ghost use Rattle.lf_base.specs.declared.values.Value.{Value};
 ghost use Rattle.lf_base.specs.CloseResult.{close_result};
 ghost use Rattle.lf_base.specs.ContentResult.{content_fault, content_refusal, content_result, has_cown};
+ghost use Rattle.lf_base.specs.DissolveResult.{dissolve_refusal, dissolve_result};
 ghost use Rattle.lf_base.specs.EndResult.{end_result};
-ghost use Rattle.lf_base.specs.FreezeResult.{FreezeClosed, freeze_set};
+ghost use Rattle.lf_base.specs.FreezeResult.{FreezeClosed, freeze_result, freeze_set};
 ghost use Rattle.lf_base.specs.Kept.{kept, kept_rows, stays};
+ghost use Rattle.lf_base.specs.MergeResult.{merge_refusal, merge_result};
 ghost use Rattle.lf_base.specs.MoveSet.{LocalPath, move_set};
 ghost use Rattle.lf_base.specs.NewCown.{made_result};
-ghost use Rattle.lf_base.specs.Owners.{has_row};
+ghost use Rattle.lf_base.specs.Owners.{bridge_of, has_row};
 ghost use Rattle.lf_base.specs.Ownership.{Above, NoRound, below, round};
-ghost use Rattle.lf_base.specs.PlainChanges.{object_result, region_result, with_slot, with_slots};
+ghost use Rattle.lf_base.specs.PlainChanges.{first_state, object_result, region_result, with_slot, with_slots};
 ghost use Rattle.lf_base.specs.PlainState.{Row, State};
 ghost use Rattle.lf_base.specs.Settling.{CanGo, Idle, Renewed, Run, Spent, Watched, without};
 ghost use Rattle.lf_base.specs.Sets.{Member};
 ghost use Rattle.lf_base.specs.Suspects.{AllHang, Suspect, Suspected};
 ghost use Rattle.lf_base.specs.TakeResult.{take_result};
 ghost use Rattle.lf_base.specs.WalkCounts.{borrowed, is_open};
-ghost use Rattle.lf_base.specs.WellFormed.{SlotMayHold, WellFormed, all_values};
+ghost use Rattle.lf_base.specs.WellFormed.{MayBeGiven, SlotMayHold, WellFormed, all_values};
 ghost use Rattle.lf_base.specs.WriteResult.{write_refusal, write_result};
 
 /// The rows that stay are rows of the state and justify each other, and each set
@@ -68,6 +70,11 @@ pub fn further_slot()
     ensures { (s : State) (v : Value) → WellFormed s → SlotMayHold s v ↔ WellFormed (with_slot s (Some v)) }
 {}
 
+/// A behaviour that begins with frozen rows alone begins well-formed.
+pub fn first_state_is_well_formed()
+    ensures { (birth : ℕ) (given : List Row) → MayBeGiven birth given → WellFormed (first_state birth given) }
+{}
+
 /// Each value of a well-formed state may be held by a further slot, and a state is
 /// well-formed with any slots that may be held.
 pub fn slots_keep()
@@ -97,6 +104,18 @@ pub fn write_law()
 pub fn content_law()
     ensures held { (s : State) (c : CownId) (v : Value) → WellFormed s → has_cown s.held c ≡ true → SlotMayHold s v → (content_refusal s c v ≡ None) ↔ WellFormed (content_result s c v) }
     ensures made { (s : State) (v : Value) → WellFormed s → SlotMayHold s v → (content_fault (made_result s v) v ≡ None) ↔ WellFormed (made_result s v) }
+{}
+
+/// A freeze leaves a well-formed state.
+pub fn freeze_keeps()
+    ensures { (s : State) (v : Value) → WellFormed s → WellFormed (freeze_result s v) }
+{}
+
+/// Merging two regions and dissolving one leave a well-formed state where they
+/// aren't refused.
+pub fn merge_keeps()
+    ensures merged { (s : State) (v u : Value) (a b : ObjId) → WellFormed s → bridge_of s v ≡ Some a → bridge_of s u ≡ Some b → merge_refusal s v u ≡ None → WellFormed (merge_result s a b) }
+    ensures dissolved { (s : State) (v : Value) (r : ObjId) → WellFormed s → bridge_of s v ≡ Some r → dissolve_refusal s v ≡ None → WellFormed (dissolve_result s r) }
 {}
 
 /// Closing a region keeps a state well-formed.
