@@ -8,9 +8,6 @@ use lf_lexer::Token;
 use std::alloc::Global;
 use std::collections::HashMap;
 
-/// The place of `print` among the texts.
-const PRINT: TextId = TextId { index: 5 };
-
 // Adds a number's line to a text.
 fn print_line(text: &mut String, value: u64) -> Result<(), OutOfMemory>
     ensures { OnOk result (string_bytes text.new ≡ string_bytes text.old ++ with_feed (decimal value)) }
@@ -59,7 +56,7 @@ impl Walk {
             self.fields.insert(field, value)?;
             return Ok(true);
         }
-        match printed_value(PRINT, object, &self.fields, tokens) {
+        match printed_value(TextId::PRINT, object, &self.fields, tokens) {
             Some(value) => {
                 print_line(&mut self.text, value)?;
                 Ok(true)

@@ -1,7 +1,10 @@
 ghost use Rattle.std.specs.Prelude.{◌≡◌, ◌↔◌, ◌++◌, ◌∷◌, [], length, slice_get, IfErr, IsTrue, MatchOption, OnErr, OnOk};
 ghost use Rattle.std.specs.Option.{option_copied};
 
+use crate::behaviours::Spawn;
+use crate::ids::CownId;
 use crate::memory::OutOfMemory;
+use crate::values::{Key, Value};
 use std::alloc::Global;
 use std::marker::Model;
 
@@ -20,6 +23,21 @@ pub type Line = Listed<u8>;
 
 /// Lines of a text, from the first on.
 pub type Lines = Listed<Line>;
+
+/// Names of cowns.
+pub type Cowns = Listed<CownId>;
+
+/// Values, as of variables or parameters.
+pub type Values = Listed<Value>;
+
+/// The spawns of one behaviour, in the order in which they were asked for.
+pub type Spawns = Listed<Spawn>;
+
+/// The fields of one object, in their order.
+pub type Fields = Listed<(Key, Value)>;
+
+/// Cowns, each with what stands behind it.
+pub type Held<C> = Listed<(CownId, C)>;
 
 impl<T> Model for Listed<T> {
     ghost use Rattle.std.specs.Prelude.{List};

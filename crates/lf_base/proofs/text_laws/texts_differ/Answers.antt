@@ -1,5 +1,5 @@
 use Rattle.lf_base.proofs.TextLemmas.{Differ-fixed_texts, Differ-with_text}
-use Rattle.lf_base.proofs.laws.texts_differ.Goals as goal
+use Rattle.lf_base.proofs.text_laws.texts_differ.Goals as goal
 
 pub returns-clause-first : goal.returns-clause-first
 returns-clause-first c = Differ-fixed_texts

@@ -1,5 +1,5 @@
 use Rattle.lf_base.proofs.TextLemmas.{place_of-text_at}
-use Rattle.lf_base.proofs.laws.texts_are_found.Goals as goal
+use Rattle.lf_base.proofs.text_laws.texts_are_found.Goals as goal
 
 pub returns : goal.returns
 returns c = place_of-text_at

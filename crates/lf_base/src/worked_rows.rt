@@ -1,0 +1,99 @@
+//! Short scripts on which the definitions of ownership, counts and dropping are
+//! tried. Each function has an empty body; its clause is the row.
+
+ghost use Rattle.lf_base.specs.WorkedRows.{BorrowedCownShows, ClosedRegionShows, DissolvesShow, FreedChildShows, FreezeInnerShows, FreezeRegionShows, HeldByInnerShows, InteriorShows, JudgedBeforeDroppingShows, LivingCycleShows, MergesShow, MovedGraphShows, OpenCownShows, OrphanedChildShows, OwnerCycleShows, RefusedUnchangedShows, ReplacedOwnerShows, SecondOwnerShows, SelfEdgeShows};
+
+/// A write into a region moves the stored object and what it reaches.
+pub fn moved_graph()
+    ensures { MovedGraphShows }
+{}
+
+/// A region's own field counts as a reference and borrows nothing.
+pub fn self_edge()
+    ensures { SelfEdgeShows }
+{}
+
+/// A second owner of a region is refused.
+pub fn second_owner()
+    ensures { SecondOwnerShows }
+{}
+
+/// A region that would own its owner is refused.
+pub fn owner_cycle()
+    ensures { OwnerCycleShows }
+{}
+
+/// A reference to the inside of another region is refused.
+pub fn interior()
+    ensures { InteriorShows }
+{}
+
+/// A write is judged without the reference that it replaces.
+pub fn replaced_owner()
+    ensures { ReplacedOwnerShows }
+{}
+
+/// A refused write changes nothing.
+pub fn refused_unchanged()
+    ensures { RefusedUnchangedShows }
+{}
+
+/// Freezing an inner object leaves its region.
+pub fn freeze_inner()
+    ensures { FreezeInnerShows }
+{}
+
+/// A cycle of local objects lives on and borrows.
+pub fn living_cycle()
+    ensures { LivingCycleShows }
+{}
+
+/// An open region is refused as a cown's content, until it is closed.
+pub fn open_cown()
+    ensures { OpenCownShows }
+{}
+
+/// A variable inside a region keeps it open.
+pub fn borrowed_cown()
+    ensures { BorrowedCownShows }
+{}
+
+/// A borrowed region outlives its owner.
+pub fn orphaned_child()
+    ensures { OrphanedChildShows }
+{}
+
+/// A child takes its owner in; a deeper region can't.
+pub fn merges()
+    ensures { MergesShow }
+{}
+
+/// Freezing a bridge freezes its whole region.
+pub fn freeze_region()
+    ensures { FreezeRegionShows }
+{}
+
+/// A dissolved region's objects are local.
+pub fn dissolves()
+    ensures { DissolvesShow }
+{}
+
+/// A variable inside a region keeps the region and not its owner.
+pub fn held_by_inner()
+    ensures { HeldByInnerShows }
+{}
+
+/// A dissolved region's child is free.
+pub fn freed_child()
+    ensures { FreedChildShows }
+{}
+
+/// Closing takes every other way in.
+pub fn closed_region()
+    ensures { ClosedRegionShows }
+{}
+
+/// A write is judged before anything is dropped.
+pub fn judged_before_dropping()
+    ensures { JudgedBeforeDroppingShows }
+{}
