@@ -1,5 +1,5 @@
 -- What the walk over the tokens has ahead of it: the tokens of the lines that are left.
-use Rattle.std.proofs.Common.{◌≡◌, ◌∙◌, ◌≤◌, ◌<◌, ◌+◌, ◌-◌, ◌==◌, ℕ, suc, Bool, true, false, not, cond, nat_lt, List, [], ◌∷◌, ◌++◌, map, length, take, drop, get_or, Option, Some, None, position, codes, sym, ap, subst, refl, arith, true≢false, append_assoc, length-append}
+use Rattle.std.proofs.Common.{◌≡◌, ◌∙◌, ◌+◌, ◌-◌, ℕ, Bool, true, false, nat_lt, List, [], ◌∷◌, ◌++◌, map, length, take, drop, get_or, Some, None, position, codes, sym, ap, subst, refl, arith, append_assoc}
 use Rattle.std.proofs.lemmas.Grind.{common_steps}
 use Rattle.std.proofs.lemmas.Bool.Decides.{nat_tests}
 use Rattle.std.proofs.lemmas.List.{take_at, drop_at}
@@ -10,15 +10,15 @@ use Rattle.lf_lexer.specs.declared.tokens.Token.{Token}
 use Rattle.lf_lexer.specs.Pieces as form
 use Rattle.lf_lexer.specs.Pieces.{Form, Piece, LineSpells}
 use Rattle.lf_lexer.specs.Reading.{Spells}
-use Rattle.lf_lexer.specs.Tokens.{lexeme_of, token_of, new_line, tokens_behind, line_tokens, end_token, last_line, tokens_from, texts_of}
+use Rattle.lf_lexer.specs.Tokens.{lexeme_of, new_line, tokens_behind, line_tokens, tokens_from}
 use Rattle.lf_app.specs.declared.walk.Walk.{Walk}
-use Rattle.lf_app.specs.FirstForm.{State, start, after_line, go_on, Verdict, Runs, Stops, verdict, verdict_from}
-use Rattle.lf_app.specs.Standing.{Has, id_of, Represents, IsFresh, EndsAt, WalksTokens}
+use Rattle.lf_app.specs.FirstForm.{State, start, after_line, go_on, Stops, verdict, verdict_from}
+use Rattle.lf_app.specs.Standing.{Has, id_of, Represents, IsFresh, EndsAt}
 use Rattle.lf_app.specs.Walks.{ends_line, is_new_line, print_id, GoesOver}
 use Rattle.lf_app.proofs.Known.{Knows, KnowsAll, script_known, has_print, print_place}
 use Rattle.lf_app.proofs.TokenShapes.{token}
 use Rattle.lf_app.proofs.Spelled.{blank_stays}
-use Rattle.lf_app.proofs.Walked.{Follows, Agrees, walked}
+use Rattle.lf_app.proofs.Walked.{Agrees, walked}
 
 pub record Ahead (bytes : List ℕ) (texts : List Text) (rest : List Token) (walk : Walk) : Type 0 where
   pub state : State

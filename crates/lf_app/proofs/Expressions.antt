@@ -1,5 +1,5 @@
 -- An expression by its shapes, forth and back.
-use Rattle.std.proofs.Common.{if◌then◌else◌, ◌≡◌, ◌∙◌, ◌≤◌, ◌+◌, ◌==◌, ◌⊎◌, inl, inr, ℕ, Bool, true, false, List, [], ◌∷◌, ◌++◌, length, Option, Some, None, sym, ap, subst, refl, arith, true≢false}
+use Rattle.std.proofs.Common.{if◌then◌else◌, ◌≡◌, ◌∙◌, ◌≤◌, ◌+◌, ◌⊎◌, inl, inr, ℕ, Bool, true, false, List, [], ◌∷◌, ◌++◌, length, Option, Some, None, sym, ap, subst, refl}
 use Rattle.std.proofs.lemmas.Slice.Eq.{bytes_eq-Decides}
 use Rattle.std.specs.Str.{bytes_eq}
 use Rattle.std.specs.Str.Parse.{digits_value}
@@ -9,9 +9,9 @@ use Rattle.lf_lexer.specs.declared.tokens.Mark.TheVariants.{CloseParen, Dot, Plu
 use Rattle.lf_lexer.specs.Pieces as pieces
 use Rattle.lf_lexer.specs.Pieces.{Longest}
 use Rattle.lf_app.specs.Line.{and_then, or_else, unspaced, sign, name, the_name, number, value_of, added, sum, field, expression}
-use Rattle.lf_app.proofs.Shapes.{Shape, Shows, Clear, FirstShape, FrontShape, front_shape, next, shows_spaced}
+use Rattle.lf_app.proofs.Shapes.{Shape, Shows, Clear, FirstShape, front_shape, next, shows_spaced}
 use Rattle.lf_app.proofs.Readings.{word_of}
-use Rattle.lf_app.proofs.Steps.{a_name, a_number, a_sign, Reads, ReadsTo, name_on, number_on, no_number_on, sign_on, Found, found, chosen, same_answer, name_read, number_read, sign_read}
+use Rattle.lf_app.proofs.Steps.{a_name, a_number, a_sign, Reads, ReadsTo, name_on, number_on, no_number_on, sign_on, found, chosen, same_answer, name_read, number_read, sign_read}
 
 pub record NumberShape (value : ℕ) (first : Shape) : Type 0 where
   pub digits : List ℕ

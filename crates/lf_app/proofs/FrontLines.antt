@@ -1,7 +1,6 @@
 -- The bytes before a line, and the verdict on the lines before one that fails.
-use Rattle.std.proofs.Common.{◌≡◌, ◌∙◌, ◌≤◌, ◌<◌, ◌+◌, ◌-◌, ◌==◌, ℕ, zero, suc, Bool, true, false, cond, if◌then◌else◌, List, [], ◌∷◌, ◌++◌, length, take, drop, get_or, Option, Some, None, sym, ap, subst, refl, arith, true≢false, drop-cons, add-one, add-zero}
+use Rattle.std.proofs.Common.{◌≡◌, ◌∙◌, ◌≤◌, ◌<◌, ◌+◌, ◌-◌, ◌==◌, ℕ, zero, suc, Bool, true, false, if◌then◌else◌, List, [], ◌∷◌, ◌++◌, length, take, drop, get_or, Option, Some, None, sym, ap, subst, refl, arith, drop-cons, add-one, add-zero}
 use Rattle.std.proofs.lemmas.Grind.{common_steps}
-use Rattle.std.proofs.lemmas.Bool.{eqb-true, eq-eqb}
 use Rattle.std.proofs.lemmas.List.{take_at}
 use Rattle.std.specs.List.{AllZip}
 use Rattle.lf_base.specs.declared.refusals.Refusal.{Refusal}
@@ -9,7 +8,7 @@ use Rattle.lf_base.specs.Lines.{lines, with_byte}
 use Rattle.lf_lexer.specs.Pieces.{LineSpells}
 use Rattle.lf_lexer.specs.Reading.{IsFirstRefusal}
 use Rattle.lf_lexer.proofs.SpelledOnce.{spelled_among}
-use Rattle.lf_app.specs.FirstForm.{State, start, after_line, Verdict, Runs, Stops, verdict, verdict_from}
+use Rattle.lf_app.specs.FirstForm.{State, start, after_line, Runs, Stops, verdict, verdict_from}
 use Rattle.lf_app.specs.Outcomes.{IsRefusedAt}
 use Rattle.lf_app.proofs.Spelled.{unspelled_fails}
 

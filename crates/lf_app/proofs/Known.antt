@@ -1,20 +1,16 @@
 -- The names of a script and their places among its texts.
-use Rattle.std.proofs.Common.{◌≡◌, ◌∙◌, ◌≤◌, ◌+◌, ◌<◌, ℕ, Bool, true, false, List, [], ◌∷◌, ◌++◌, map, length, Option, Some, None, pos, codes, sym, ap, subst, refl, arith, true≢false}
+use Rattle.std.proofs.Common.{◌≡◌, ◌∙◌, true, List, [], ◌∷◌, ◌++◌, codes, ap, refl}
 use Rattle.std.proofs.lemmas.List.Folds.{list_any-append}
 use Rattle.std.proofs.Math.Bool.{or-true}
-use Rattle.std.specs.List.{list_any, flat_map, AllZip}
+use Rattle.std.specs.List.{list_any, flat_map}
 use Rattle.std.specs.Str.{bytes_eq}
-use Rattle.std.specs.Str.Parse.{digits_value}
 use Rattle.lf_base.specs.declared.ids.TextId.{TextId}
-use Rattle.lf_base.specs.Texts.{Text, place_of, with_texts, fixed_texts}
+use Rattle.lf_base.specs.Texts.{Text, fixed_texts}
 use Rattle.lf_base.proofs.TextLemmas.{place_of_same, list_any-seen, list_any-base, place_of-base, bytes_eq_self}
-use Rattle.lf_lexer.specs.declared.tokens.Lexeme.TheVariants as lexeme
-use Rattle.lf_lexer.specs.declared.tokens.Mark.{Mark}
-use Rattle.lf_lexer.specs.declared.tokens.Token.{Token}
 use Rattle.lf_lexer.specs.Pieces as pieces
 use Rattle.lf_lexer.specs.Pieces.{Form, Piece}
 use Rattle.lf_app.specs.Standing.{Has, id_of}
-use Rattle.lf_lexer.specs.Tokens.{lexeme_of, token_of, texts_of, texts_of_form, texts_of_pieces}
+use Rattle.lf_lexer.specs.Tokens.{texts_of, texts_of_form, texts_of_pieces}
 
 pub same_id : (texts : List Text) (s t : Text) → Has texts s → Has texts t → id_of texts s ≡ id_of texts t → s ≡ t
 same_id texts s t has_s has_t e = place_of_same texts s t has_s has_t (ap (λ (id : TextId). id.index) e)

@@ -1,15 +1,15 @@
 -- The three forms of a line by their shapes, forth and back.
-use Rattle.std.proofs.Common.{arith, append-nil, ◌≡◌, ◌∙◌, ◌==◌, ◌⊎◌, inl, inr, ℕ, Bool, true, false, List, [], ◌∷◌, ◌++◌, Option, Some, None, codes, sym, ap, subst, refl, true≢false}
+use Rattle.std.proofs.Common.{arith, append-nil, ◌≡◌, ◌∙◌, ◌==◌, inl, inr, ℕ, Bool, true, false, List, [], ◌∷◌, ◌++◌, Some, codes, sym, ap, subst, refl, true≢false}
 use Rattle.std.proofs.lemmas.Bool.{eqb-true}
 use Rattle.lf_base.specs.Texts.{Text}
 use Rattle.lf_lexer.specs.declared.tokens.Mark.TheVariants.{OpenParen, CloseParen, OpenBrace, CloseBrace, Dot, Assign}
-use Rattle.lf_lexer.specs.Bytes.{Stops, Passes, is_digit, is_name_byte}
+use Rattle.lf_lexer.specs.Bytes.{Stops, is_digit, is_name_byte}
 use Rattle.lf_lexer.specs.Pieces as pieces
 use Rattle.lf_app.specs.Line.{and_then, ends_with, unspaced, sign, name, the_name, expression, made_object, stored_field, printed_value}
-use Rattle.lf_app.proofs.Shapes.{Shape, Shows, Clear, FirstShape, FrontShape, front_shape, ended, differs, unspaced_clear}
+use Rattle.lf_app.proofs.Shapes.{Shape, Shows, Clear, front_shape, ended, differs, unspaced_clear}
 use Rattle.lf_app.proofs.Readings.{IsNameWord, IsNumberWord, word_of}
-use Rattle.lf_app.proofs.Steps.{a_name, a_number, a_sign, Reads, ReadsTo, name_on, sign_on, Found, found, same_answer, sign_read}
-use Rattle.lf_app.proofs.Expressions.{NumberShape, SumShape, FieldShape, HasShape, Closes, on, first_of, the_name_on, expression_on, name_back, sign_back, the_name_is, Spelled, expression_back}
+use Rattle.lf_app.proofs.Steps.{a_name, a_number, a_sign, name_on, sign_on, found, same_answer, sign_read}
+use Rattle.lf_app.proofs.Expressions.{NumberShape, HasShape, on, first_of, the_name_on, expression_on, name_back, sign_back, the_name_is, expression_back}
 
 pub record MadeShape (object : Text) (these : List Shape) : Type 0 where
   pub assign : List ℕ

@@ -1,17 +1,14 @@
 -- What each reading of a line's front takes, against the shape of its first piece.
-use Rattle.std.proofs.Common.{◌≡◌, ◌∙◌, ◌≤◌, ◌<◌, ◌+◌, ◌^◌, ◌==◌, ◌||◌, ◌&&◌, not, ℕ, suc, Bool, true, false, List, [], ◌∷◌, ◌++◌, length, Option, Some, None, nat_le, sym, ap, subst, refl, arith, true≢false}
-use Rattle.std.proofs.lemmas.Bool.{eqb-true, eq-eqb}
+use Rattle.std.proofs.Common.{◌≡◌, ◌≤◌, ℕ, Bool, true, false, List, [], ◌∷◌, ◌++◌, length, Some, None, nat_le, sym, ap, refl, arith, true≢false}
+use Rattle.std.proofs.lemmas.Bool.{eq-eqb}
 use Rattle.std.proofs.lemmas.Bool.Decides.{nat_tests}
-use Rattle.std.proofs.lemmas.Grind.{common_steps}
 use Rattle.std.specs.Str.Parse.{digits_value}
-use Rattle.lf_base.specs.Texts.{Text}
 use Rattle.lf_lexer.specs.declared.tokens.Mark.{Mark}
 use Rattle.lf_lexer.specs.declared.tokens.Mark.TheVariants.{OpenParen, CloseParen, OpenBrace, CloseBrace, Dot, Assign, Plus}
-use Rattle.lf_lexer.specs.Bytes.{Stops, Passes, is_letter, is_digit, is_name_byte, is_word}
+use Rattle.lf_lexer.specs.Bytes.{Stops, Passes, is_letter, is_digit, is_name_byte}
 use Rattle.lf_lexer.specs.Pieces as pieces
 use Rattle.lf_lexer.specs.Pieces.{Form, Longest}
-use Rattle.lf_app.specs.Line.{and_then, or_else, front_of, behind_front, unspaced, sign, is_name, name, number}
-use Rattle.lf_app.proofs.Shapes.{Shape, Shows, Clear, FirstShape, ended, next, differs, unspaced_clear, shows_unspaced, shows_spaced}
+use Rattle.lf_app.specs.Line.{front_of, behind_front, unspaced, sign, is_name, name, number}
 
 -- the byte of a sign
 abbrev pub code_of : Mark → ℕ

@@ -1,11 +1,10 @@
 -- The pieces of a line without their places, and what the bytes under them say.
-use Rattle.std.proofs.Common.{◌≡◌, ◌∙◌, ◌≤◌, ◌<◌, ◌+◌, ◌==◌, ℕ, suc, Bool, true, false, List, [], ◌∷◌, ◌++◌, map, length, Option, Some, None, sym, ap, subst, refl, arith, true≢false}
+use Rattle.std.proofs.Common.{◌≡◌, ◌∙◌, ◌+◌, ◌==◌, ℕ, Bool, true, false, List, [], ◌∷◌, ◌++◌, map, length, sym, ap, subst, refl, true≢false}
 use Rattle.std.proofs.lemmas.Bool.{eqb-true}
-use Rattle.lf_lexer.specs.declared.tokens.Mark.{Mark}
 use Rattle.lf_lexer.specs.Bytes.{Stops, is_letter, is_digit}
 use Rattle.lf_lexer.specs.Pieces as pieces
 use Rattle.lf_lexer.specs.Pieces.{Form, Piece, Longest, RestSpells}
-use Rattle.lf_app.specs.Line.{and_then, or_else, behind_front, unspaced}
+use Rattle.lf_app.specs.Line.{unspaced}
 
 pub record Shape : Type 0 where
   pub form : Form

@@ -1,8 +1,7 @@
 -- One reading of a line's front, forth and back: what stands there by the shapes is read, and what is read has a shape.
-use Rattle.std.proofs.Common.{rules, add-suc, pow-suc, ◌⊎◌, ◌-◌, zero, add-zero, lit<, inl, inr, ◌≡◌, ◌∙◌, ◌≤◌, ◌<◌, ◌+◌, ◌^◌, ◌==◌, ◌||◌, ◌&&◌, not, ℕ, suc, Bool, true, false, List, [], ◌∷◌, ◌++◌, length, Option, Some, None, nat_le, sym, ap, subst, refl, arith, true≢false}
+use Rattle.std.proofs.Common.{rules, add-suc, pow-suc, ◌⊎◌, ◌-◌, zero, add-zero, lit<, inl, inr, ◌≡◌, ◌∙◌, ◌≤◌, ◌<◌, ◌+◌, ◌^◌, ◌==◌, ℕ, suc, Bool, true, false, List, [], ◌∷◌, ◌++◌, length, Option, Some, None, nat_le, sym, ap, subst, refl, arith, true≢false}
 use Rattle.std.proofs.lemmas.Bool.{eqb-true}
 use Rattle.std.proofs.lemmas.Bool.Decides.{nat_tests}
-use Rattle.std.proofs.lemmas.Grind.{common_steps}
 use Rattle.std.proofs.lemmas.Int.Digits.{digits_value-lt}
 use Rattle.std.specs.Char.{digit_value}
 use Rattle.std.specs.Str.Parse.{digits_value, AllDigits}
@@ -12,8 +11,8 @@ use Rattle.lf_lexer.specs.Bytes.{Stops, Passes, is_letter, is_digit, is_name_byt
 use Rattle.lf_lexer.specs.Pieces as pieces
 use Rattle.lf_lexer.specs.Pieces.{Form, Longest}
 use Rattle.lf_app.specs.Line.{and_then, or_else, front_of, behind_front, unspaced, sign, is_name, name, number}
-use Rattle.lf_app.proofs.Shapes.{Shape, Shows, Clear, FirstShape, ended, next, unspaced_clear, shows_unspaced, shows_spaced}
-use Rattle.lf_app.proofs.Readings.{code_of, word_of, name_reads, number_reads, number_fails, sign_reads, IsNameWord}
+use Rattle.lf_app.proofs.Shapes.{Shape, Shows, Clear, FirstShape, unspaced_clear, shows_unspaced}
+use Rattle.lf_app.proofs.Readings.{code_of, word_of, name_reads, number_reads, number_fails, sign_reads}
 
 abbrev pub a_name : Text → Shape
 a_name text = record { form = pieces.name; bytes = text }

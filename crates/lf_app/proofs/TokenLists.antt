@@ -1,7 +1,7 @@
 -- The parts of a list of tokens, as the code reads them.
-use Rattle.std.proofs.Common.{◌≡◌, ◌∙◌, ◌≤◌, ◌<◌, ◌+◌, ◌-◌, ℕ, suc, List, [], ◌∷◌, ◌++◌, length, take, drop, get_or, Option, Some, None, MatchOption, sym, ap, subst, refl, arith}
+use Rattle.std.proofs.Common.{◌≡◌, ◌∙◌, ◌≤◌, ◌<◌, ◌+◌, ◌-◌, ℕ, List, [], ◌∷◌, ◌++◌, length, take, drop, get_or, Option, Some, None, MatchOption, sym, ap, subst, arith}
 use Rattle.std.proofs.lemmas.Grind.{common_steps}
-use Rattle.std.proofs.lemmas.List.{take_more, same_from_push, take_all}
+use Rattle.std.proofs.lemmas.List.{take_more, same_from_push}
 use Rattle.lf_base.specs.declared.ids.TextId.{TextId}
 use Rattle.lf_lexer.specs.declared.tokens.Mark.TheVariants.{OpenParen, CloseParen}
 use Rattle.lf_lexer.specs.declared.tokens.Lexeme.TheVariants as lexeme

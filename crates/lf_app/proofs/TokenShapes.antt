@@ -1,9 +1,8 @@
 -- What the tokens of a line say, against the shapes of its pieces.
-use Rattle.std.proofs.Common.{◌≡◌, ◌∙◌, ◌≤◌, ◌+◌, ◌⊎◌, inl, inr, ℕ, List, [], ◌∷◌, ◌++◌, map, length, Option, Some, None, pos, codes, sym, ap, subst, refl, arith}
+use Rattle.std.proofs.Common.{◌≡◌, ◌∙◌, inl, inr, ℕ, List, [], ◌∷◌, ◌++◌, map, length, Option, pos, codes, sym, ap, subst, refl, arith}
 use Rattle.std.specs.Str.Parse.{digits_value}
 use Rattle.lf_base.specs.declared.ids.TextId.{TextId}
 use Rattle.lf_base.specs.Texts.{Text}
-use Rattle.lf_lexer.specs.declared.tokens.Lexeme.{Lexeme}
 use Rattle.lf_lexer.specs.declared.tokens.Lexeme.TheVariants as lexeme
 use Rattle.lf_lexer.specs.declared.tokens.Mark.{Mark}
 use Rattle.lf_lexer.specs.declared.tokens.Mark.TheVariants.{OpenParen, CloseParen, OpenBrace, CloseBrace, Dot, Assign, Plus}
@@ -13,10 +12,10 @@ use Rattle.lf_lexer.specs.Pieces.{Form, Piece}
 use Rattle.lf_lexer.specs.Tokens.{lexeme_of, token_of}
 use Rattle.lf_app.specs.Line.{value_of}
 use Rattle.lf_app.specs.Standing.{Has, id_of, Sees}
-use Rattle.lf_app.specs.TokenForms.{IsMark, IsName, IsNumber, IsSum, IsField, HasValue, MakesObject, StoresField, PrintsValue}
+use Rattle.lf_app.specs.TokenForms.{IsMark, IsName, IsNumber, HasValue, MakesObject, StoresField, PrintsValue}
 use Rattle.lf_app.proofs.Shapes.{Shape, shape_of, shapes}
-use Rattle.lf_app.proofs.Steps.{a_name, a_number, a_sign}
-use Rattle.lf_app.proofs.Expressions.{NumberShape, SumShape, FieldShape, HasShape}
+use Rattle.lf_app.proofs.Steps.{a_name, a_sign}
+use Rattle.lf_app.proofs.Expressions.{NumberShape, HasShape}
 use Rattle.lf_app.proofs.LineForms.{MadeShape, StoredShape, PrintedShape}
 use Rattle.lf_app.proofs.Known.{same_id, Knows, KnowsForm}
 

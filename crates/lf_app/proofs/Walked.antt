@@ -1,10 +1,8 @@
 -- One line of the walk in code is one line of the walk over the script's bytes.
-use Rattle.std.proofs.Common.{◌≡◌, ◌∙◌, ◌+◌, ◌==◌, ◌⊎◌, inl, inr, ℕ, Bool, true, false, cond, List, [], ◌∷◌, ◌++◌, map, Option, Some, None, codes, sym, ap, subst, refl, arith, true≢false, append_assoc, append-nil}
+use Rattle.std.proofs.Common.{◌≡◌, ◌∙◌, inl, inr, ℕ, Bool, true, false, cond, List, [], ◌∷◌, ◌++◌, map, Option, Some, None, codes, sym, ap, subst, refl, true≢false, append_assoc, append-nil}
 use Rattle.std.proofs.lemmas.Bool.{eqb-true, eq-eqb}
 use Rattle.std.proofs.lemmas.Slice.Eq.{bytes_eq-Decides}
 use Rattle.std.specs.Fmt.{decimal}
-use Rattle.std.specs.Prelude.{string_bytes}
-use Rattle.std.specs.List.{flat_map}
 use Rattle.std.specs.Str.{bytes_eq}
 use Rattle.lf_base.specs.declared.ids.TextId.{TextId}
 use Rattle.lf_base.specs.Texts.{Text}
@@ -15,7 +13,7 @@ use Rattle.lf_app.specs.declared.walk.Walk.{Walk}
 use Rattle.lf_app.specs.Fields.{same_text, value_at}
 use Rattle.lf_app.specs.FirstForm.{State, after_said, after_line, with_object, with_field, with_printed}
 use Rattle.lf_app.specs.Line.{and_then, or_else, value_of, made_object, stored_field, printed_value}
-use Rattle.lf_app.specs.Standing.{Has, id_of, Sees, ObjectIs, text_so_far, Represents}
+use Rattle.lf_app.specs.Standing.{Has, id_of, ObjectIs, Represents}
 use Rattle.lf_app.specs.Output.{with_feed, printed_lines}
 use Rattle.lf_app.specs.TokenForms.{MakesObject, StoresField, PrintsValue}
 use Rattle.lf_app.specs.Walks.{Made, Stored, Printed, SaysNothing, GoesOver, print_id}

@@ -1,5 +1,5 @@
 -- What a call of the program may answer, and what it has then read and written.
-use Rattle.std.specs.Prelude.{◌≡◌, ◌≤◌, ◌+◌, ◌⊎◌, ℕ, true, false, List, [], length, nat_lt, Option, Some, if◌then◌else◌}
+use Rattle.std.specs.Prelude.{◌≡◌, ◌≤◌, ◌+◌, ◌⊎◌, ℕ, true, false, List, [], length, nat_lt, Some, if◌then◌else◌}
 use Rattle.std.specs.Io.KnownBytes.{Consumes, Appends, IsAtEnd}
 use Rattle.lf_outside.specs.Causes.{Rose}
 use Rattle.lf_outside.specs.Streams.{Stream}

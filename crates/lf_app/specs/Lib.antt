@@ -4,6 +4,7 @@ pub mod Line
 pub mod FirstForm
 pub mod Output
 pub mod Answers
+pub mod WorkedRows
 pub mod Fields
 pub mod TokenForms
 pub mod Walks

@@ -1,5 +1,5 @@
 -- What the tokens of a line say, each line form by its tokens.
-use Rattle.std.specs.Prelude.{◌≡◌, ◌≤◌, ℕ, ◌+◌, ◌⊎◌, List, [], ◌∷◌, ◌++◌, Option, Some, None, pos}
+use Rattle.std.specs.Prelude.{◌≡◌, ◌≤◌, ℕ, ◌+◌, ◌⊎◌, List, [], ◌∷◌, ◌++◌, Option, Some, pos}
 use Rattle.lf_base.specs.declared.ids.TextId.{TextId}
 use Rattle.lf_lexer.specs.declared.tokens.Mark.{Mark}
 use Rattle.lf_lexer.specs.declared.tokens.Mark.TheVariants.{OpenParen, CloseParen, OpenBrace, CloseBrace, Dot, Assign, Plus}

@@ -1,5 +1,5 @@
 -- What the walk over a script's tokens does at a line.
-use Rattle.std.specs.Prelude.{◌≡◌, ◌⊎◌, ℕ, Bool, true, false, List, [], ◌∷◌, ◌++◌, Option, Some, None, string_bytes}
+use Rattle.std.specs.Prelude.{◌≡◌, ◌⊎◌, ℕ, Bool, true, false, List, ◌++◌, Option, Some, None, string_bytes}
 use Rattle.std.specs.HashMap.{Updates}
 use Rattle.std.specs.Fmt.{decimal}
 use Rattle.lf_base.specs.declared.ids.TextId.{TextId}

@@ -14,6 +14,7 @@ mod statuses;
 mod token_forms;
 mod walk;
 mod word_list;
+pub mod worked_rows;
 
 pub use commands::{MainStore, tool, top};
 pub use reports::Report;

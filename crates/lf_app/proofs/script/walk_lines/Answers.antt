@@ -1,5 +1,4 @@
 use Rattle.std.proofs.Common.{◌∙◌, sym, true, false}
-use Rattle.lf_app.specs.Walks.{GoesOver}
 use Rattle.lf_app.proofs.Ahead.{whole_ahead, next_line, all_walked, print_known, walk_step}
 use Rattle.lf_app.proofs.script.walk_lines.Goals as goal
 
