@@ -38,3 +38,4 @@ pub mod TextLemmas
 pub mod Watch
 pub mod Without
 pub mod WriteLaw
+pub mod WriteShows

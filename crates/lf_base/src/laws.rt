@@ -1,31 +1,34 @@
 //! What was proved of the definitions of ownership, counts and dropping. Each
 //! function has an empty body; its clauses are the law.
 
-ghost use Rattle.std.specs.Prelude.{◌≡◌, ◌<◌, ◌↔◌, ◌⊎◌, ◌∷◌, ◌++◌, [], Bool, List, None, Option, Some, false, true, ℕ};
+ghost use Rattle.std.specs.Prelude.{◌≡◌, ◌+◌, ◌<◌, ◌↔◌, ◌⊎◌, ◌∷◌, ◌++◌, [], Bool, List, None, Option, Some, false, true, ℕ};
 ghost use Rattle.lf_base.specs.declared.ids.CownId.{CownId};
 ghost use Rattle.lf_base.specs.declared.ids.ObjId.{ObjId};
 ghost use Rattle.lf_base.specs.declared.values.Key.{Key};
+ghost use Rattle.lf_base.specs.declared.values.Owner.TheVariants.{In};
 ghost use Rattle.lf_base.specs.declared.values.Value.{Value};
 ghost use Rattle.lf_base.specs.CloseResult.{close_result};
 ghost use Rattle.lf_base.specs.ContentResult.{content_fault, content_refusal, content_result, has_cown};
 ghost use Rattle.lf_base.specs.DissolveResult.{dissolve_refusal, dissolve_result};
+ghost use Rattle.lf_base.specs.Edges.{Edge, Field, edges};
 ghost use Rattle.lf_base.specs.EndResult.{end_result};
 ghost use Rattle.lf_base.specs.FreezeResult.{FreezeClosed, freeze_result, freeze_set};
 ghost use Rattle.lf_base.specs.Kept.{kept, kept_rows, stays};
 ghost use Rattle.lf_base.specs.MergeResult.{merge_refusal, merge_result};
 ghost use Rattle.lf_base.specs.MoveSet.{LocalPath, move_set};
+ghost use Rattle.lf_base.specs.Names.{targets_of_value};
 ghost use Rattle.lf_base.specs.NewCown.{made_result};
-ghost use Rattle.lf_base.specs.Owners.{bridge_of, has_row};
-ghost use Rattle.lf_base.specs.Ownership.{Above, NoRound, below, round};
+ghost use Rattle.lf_base.specs.Owners.{bridge_of, has_row, owner_in, row_at};
+ghost use Rattle.lf_base.specs.Ownership.{Above, NoRound, below, owns, round};
 ghost use Rattle.lf_base.specs.PlainChanges.{first_state, object_result, region_result, with_slot, with_slots};
 ghost use Rattle.lf_base.specs.PlainState.{Row, State};
 ghost use Rattle.lf_base.specs.Settling.{CanGo, Idle, Renewed, Run, Spent, Watched, without};
 ghost use Rattle.lf_base.specs.Sets.{Member};
 ghost use Rattle.lf_base.specs.Suspects.{AllHang, Suspect, Suspected};
-ghost use Rattle.lf_base.specs.TakeResult.{take_result};
-ghost use Rattle.lf_base.specs.WalkCounts.{borrowed, is_open};
+ghost use Rattle.lf_base.specs.TakeResult.{field_at, take_result};
+ghost use Rattle.lf_base.specs.WalkCounts.{borrowed, counted, is_open, refs};
 ghost use Rattle.lf_base.specs.WellFormed.{MayBeGiven, SlotMayHold, WellFormed, all_values};
-ghost use Rattle.lf_base.specs.WriteResult.{write_refusal, write_result};
+ghost use Rattle.lf_base.specs.WriteResult.{leads_inside, write_refusal, write_result};
 
 /// The rows that stay are rows of the state and justify each other, and each set
 /// of rows that justify each other stays.
@@ -97,6 +100,20 @@ pub fn take_keeps()
 /// exactly where it isn't refused.
 pub fn write_law()
     ensures { (s : State) (x : ObjId) (k : Key) (v : Value) → WellFormed s → has_row s.rows x ≡ true → SlotMayHold s v → (write_refusal s x k v ≡ None) ↔ WellFormed (write_result s x k v) }
+{}
+
+/// Where to look after a write: an edge to the inside of another region is the new
+/// one, or begins at a row that moved; and where the target lies in a region, owners
+/// go round exactly where that region then owns one that was above it.
+pub fn write_shows()
+    ensures interior { (s : State) (x : ObjId) (k : Key) (v : Value) → WellFormed s → SlotMayHold s v → has_row s.rows x ≡ true → (e : Edge) → Member e (edges (write_result s x k v)) → leads_inside (write_result s x k v).rows e (owner_in (write_result s x k v).rows e.to) ≡ true → ((e.from ≡ Field x) × Member e.to (targets_of_value v)) ⊎ ((row : Row) × (Member row (move_set s v) × (e.from ≡ Field row.name))) }
+    ensures round { (s : State) (x : ObjId) (k : Key) (v : Value) (home : ObjId) → WellFormed s → SlotMayHold s v → owner_in s.rows x ≡ Some (In home) → (round (write_result s x k v) ≡ []) ↔ ((b : ObjId) → owns (write_result s x k v) home b ≡ true → Above s b home → ⊥) }
+{}
+
+/// A write adds the edge of the new value to the counts and takes that of the old
+/// one away.
+pub fn write_counts()
+    ensures { (s : State) (x : ObjId) (k : Key) (v : Value) (row : Row) (o : ObjId) → WellFormed s → row_at s.rows x ≡ Some row → refs (write_result s x k v) o + counted o (field_at row.fields k) ≡ refs s o + counted o (Some v) }
 {}
 
 /// A write of a held cown's content gives a well-formed state exactly where it
