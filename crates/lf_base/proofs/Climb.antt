@@ -5,7 +5,6 @@ use Rattle.lf_base.specs.Names.{same_name}
 use Rattle.lf_base.specs.Ownership.{Above, NoRound, direct, owns, step}
 use Rattle.lf_base.specs.PlainState.{State}
 use Rattle.lf_base.proofs.Names.{same_name_is}
-use Rattle.lf_base.proofs.RegionMoves.{after}
 
 -- a change after which only region home owns more
 pub record Gains (s after : State) (home : ObjId) (New : ObjId → Type 0) : Type 0 where

@@ -19,11 +19,11 @@ use Rattle.lf_base.proofs.Lookup.{no_both}
 use Rattle.lf_base.proofs.Members.{Member_any, any_Member}
 use Rattle.lf_base.proofs.Names.{same_name_is, same_name_itself}
 use Rattle.lf_base.proofs.OwnersGoRound.{none_above}
+use Rattle.lf_base.proofs.Quiet.{in_not_frozen, is_or_frozen, lead_near, local_not_frozen}
 use Rattle.lf_base.proofs.RegionMoves.{became, edge_before, edges_same, frozen_on, moves_keep, near_on, nothing, region_owner, swap_other, swap_region, swapped, the_new, the_same}
 use Rattle.lf_base.proofs.Sublists.{count_sub}
 use Rattle.lf_base.proofs.Watch.{false_by, or_split}
 use Rattle.lf_base.proofs.Without.{some_none}
-use Rattle.lf_base.proofs.WriteLaw.{in_not_frozen, is_or_frozen, lead_near, local_not_frozen}
 
 module _ (s : State) (t : WellFormed s) (r : ObjId) (own : owner_in s.rows r ≡ Some (In r)) (free : is_owned s r ≡ false) where
   abbrev rows : List Row

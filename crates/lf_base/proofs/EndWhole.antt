@@ -23,10 +23,10 @@ use Rattle.lf_base.proofs.KeptWhole.{frozen_leads_on, well_formed_kept}
 use Rattle.lf_base.proofs.LeftWhole.{MayLeave, left_well_formed}
 use Rattle.lf_base.proofs.Lookup.{kept_in, no_both, owner_has, owner_mem, row_leads, to_local}
 use Rattle.lf_base.proofs.MovedRows.{differ_rows}
+use Rattle.lf_base.proofs.Quiet.{in_not_local}
 use Rattle.lf_base.proofs.SameOwners.{slots_keep}
 use Rattle.lf_base.proofs.Sets.{Member_of_filter}
 use Rattle.lf_base.proofs.Watch.{false_by, local_at_is, not_true, or_no}
-use Rattle.lf_base.proofs.WriteLaw.{in_not_local}
 
 module _ (s : State) (t : WellFormed s) where
   -- without slots

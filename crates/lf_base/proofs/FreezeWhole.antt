@@ -13,18 +13,17 @@ use Rattle.lf_base.specs.FreezeResult.{brings_in, freeze_result, freeze_set, fro
 use Rattle.lf_base.specs.Names.{cowns_of_value, name_below, same_key, same_name}
 use Rattle.lf_base.specs.Owners.{has_name, has_row, is_bridge, is_in, names, or_frozen, owner_in, owner_of}
 use Rattle.lf_base.specs.Ownership.{Above, direct, is_from, is_in_other, is_owning, owning_edges, owns, step}
-use Rattle.lf_base.specs.PlainChanges.{insert_row}
 use Rattle.lf_base.specs.PlainState.{Row, State}
-use Rattle.lf_base.specs.Sets.{Differ, InOrder, Member}
+use Rattle.lf_base.specs.Sets.{Differ, Member}
 use Rattle.lf_base.specs.WellFormed.{Leads, WellFormed, all_cowns, all_names, all_values, content_values, field_values, from_content, from_near, from_row, may_lead, own_cowns, slot_values}
 use Rattle.lf_base.proofs.Counts.{Distinct}
-use Rattle.lf_base.proofs.Dropped.{Sub, and_join, and_parts, mem_has, none, pass, row_of, sub_all, sub_filter, sub_within, take}
+use Rattle.lf_base.proofs.Dropped.{Sub, and_join, and_parts, mem_has, row_of, sub_all, sub_filter, sub_within}
 use Rattle.lf_base.proofs.Goes.{at_content, at_frozen, at_row, at_slot, begins, none_count}
+use Rattle.lf_base.proofs.InsertedRows.{Apart, all_inserted, all_order, append_assoc, differ_all, distinct_frozen, distinct_sub, has_all, has_append, has_frozen}
 use Rattle.lf_base.proofs.Lookup.{edge_row, named, no_both, owner_there}
 use Rattle.lf_base.proofs.Members.{Member_any, Member_flat_map, Member_map, Member_of_flat_map, Member_of_map, Within_flat_map, any_Member, any_more, or_true}
 use Rattle.lf_base.proofs.MovedRows.{differ_apart, differ_rows, has_names}
-use Rattle.lf_base.proofs.Names.{same_name_is, same_name_itself}
-use Rattle.lf_base.proofs.NewRows.{inserted, inserted_order}
+use Rattle.lf_base.proofs.Names.{same_name_itself}
 use Rattle.lf_base.proofs.OwnersGoRound.{none_above, round_none}
 use Rattle.lf_base.proofs.Paths.{freeze_closed, freeze_part, freeze_within, in_named}
 use Rattle.lf_base.proofs.SameOwners.{lead_there}
@@ -34,102 +33,6 @@ use Rattle.lf_base.proofs.Sublists.{count_sub, differ_sub, name_below_trans, ord
 use Rattle.lf_base.proofs.Watch.{false_by, field_is, not_true, or_left, or_no, same_row}
 use Rattle.lf_base.proofs.Without.{owner_lost, owner_old, owner_stay, show, some_none}
 
--- ---- rows put among others
-all_inserted : (xs ys : List Row) (y : Row) → Member y (insert_rows xs ys) → Member y xs ⊎ Member y ys
-all_inserted [] ys y m = inr m
-all_inserted (x ∷ xs) ys y m = elim (inserted x (insert_rows xs ys) y m) [
-  | inl e ↦ inl (inl e)
-  | inr k ↦ elim (all_inserted xs ys y k) [ inl j ↦ inl (inr j) | inr j ↦ inr j ]
-]
-
-append_assoc : {X : Type 0} (xs ys zs : List X) → xs ++ (ys ++ zs) ≡ (xs ++ ys) ++ zs
-append_assoc [] ys zs = refl
-append_assoc (x ∷ xs) ys zs = ap (λ l. x ∷ l) (append_assoc xs ys zs)
-
-or_swap : (a b c : Bool) → (b || (a || c)) ≡ (a || (b || c))
-or_swap true true c = refl
-or_swap true false c = refl
-or_swap false true c = refl
-or_swap false false c = refl
-
-has_inserted : (x : Row) (ys : List Row) (o : ObjId) → has_row (insert_row x ys) o ≡ (same_name x.name o || has_row ys o)
-has_inserted x [] o = refl
-has_inserted x (y ∷ ys) o =
-    elim (name_below x.name y.name) as (λ b. has_row (cond b (x ∷ (y ∷ ys)) (y ∷ insert_row x ys)) o ≡ (same_name x.name o || has_row (y ∷ ys) o)) [
-      | true ↦ refl
-      | false ↦ ap (λ b. same_name y.name o || b) (has_inserted x ys o) ∙ or_swap (same_name x.name o) (same_name y.name o) (has_row ys o)
-    ]
-
-or_assoc : (a b c : Bool) → (a || (b || c)) ≡ ((a || b) || c)
-or_assoc true b c = refl
-or_assoc false b c = refl
-
-has_all : (xs ys : List Row) (o : ObjId) → has_row (insert_rows xs ys) o ≡ (has_row xs o || has_row ys o)
-has_all [] ys o = refl
-has_all (x ∷ xs) ys o = has_inserted x (insert_rows xs ys) o ∙ ap (λ b. same_name x.name o || b) (has_all xs ys o) ∙ or_assoc (same_name x.name o) (has_row xs o) (has_row ys o)
-
-has_frozen : (xs : List Row) (o : ObjId) → has_row (map frozen_row xs) o ≡ has_row xs o
-has_frozen [] o = refl
-has_frozen (x ∷ xs) o = ap (λ b. same_name x.name o || b) (has_frozen xs o)
-
--- the rows of the first list aren't among the second
-abbrev Apart : List Row → List ObjId → Type 0
-Apart xs os = (x : Row) → Member x xs → has_name os x.name ≡ false
-
-none_here : (xs ys : List Row) (o : ObjId) → has_row xs o ≡ false → has_row ys o ≡ false → has_row (insert_rows xs ys) o ≡ false
-none_here xs ys o h k = has_all xs ys o ∙ or_no _ _ h k
-
-all_order : (xs ys : List Row) → Distinct xs → Apart xs (names ys) → InOrder name_below (names ys) → InOrder name_below (names (insert_rows xs ys))
-all_order [] ys d f o = o
-all_order (x ∷ xs) ys d f o = inserted_order x (insert_rows xs ys) (none_here xs ys x.name d.0 (sym (has_names ys x.name) ∙ f x (inl refl))) (all_order xs ys d.1 (λ y m. f y (inr m)) o)
-
-other_way : (a b : ObjId) → same_name a b ≡ false → same_name b a ≡ false
-other_way a b h = false_by _ (λ e. no_both _ (ap (same_name a) (same_name_is b a e) ∙ same_name_itself a) h)
-
-has_append : (os ps : List ObjId) (o : ObjId) → has_name (os ++ ps) o ≡ (has_name os o || has_name ps o)
-has_append [] ps o = refl
-has_append (p ∷ os) ps o = ap (λ b. same_name p o || b) (has_append os ps o) ∙ or_assoc (same_name p o) (has_name os o) (has_name ps o)
-
-has_inserted_name : (x : Row) (ys : List Row) (o : ObjId) → has_name (names (insert_row x ys)) o ≡ (same_name x.name o || has_name (names ys) o)
-has_inserted_name x ys o = has_names (insert_row x ys) o ∙ has_inserted x ys o ∙ ap (λ b. same_name x.name o || b) (sym (has_names ys o))
-
-differ_row : (x : Row) (ys : List Row) → has_name (names ys) x.name ≡ false → Differ same_name (names ys) → Differ same_name (names (insert_row x ys))
-differ_row x [] f d = (refl, tt)
-differ_row x (y ∷ ys) f d =
-    let apart : same_name y.name x.name ≡ false = false_by _ (λ e. no_both _ (or_left _ (has_name (names ys) x.name) e) f) in
-    let rest : has_name (names ys) x.name ≡ false = false_by _ (λ e. no_both _ (ap (λ b. same_name y.name x.name || b) e ∙ or_true _) f) in
-    elim (name_below x.name y.name) as (λ b. Differ same_name (names (cond b (x ∷ (y ∷ ys)) (y ∷ insert_row x ys)))) [
-      | true ↦ (f, d)
-      | false ↦ (has_inserted_name x ys y.name ∙ or_no _ _ (other_way y.name x.name apart) d.0, differ_row x ys rest d.1)
-    ]
-
-differ_into : (os : List ObjId) (x : Row) (ys : List Row) → has_name os x.name ≡ false → has_name (names ys) x.name ≡ false → Differ same_name (os ++ names ys) → Differ same_name (os ++ names (insert_row x ys))
-differ_into [] x ys f g d = differ_row x ys g d
-differ_into (p ∷ os) x ys f g d =
-    let apart : same_name p x.name ≡ false = false_by _ (λ e. no_both _ (or_left _ (has_name os x.name) e) f) in
-    let rest : has_name os x.name ≡ false = false_by _ (λ e. no_both _ (ap (λ b. same_name p x.name || b) e ∙ or_true _) f) in
-    let old : (has_name os p || has_name (names ys) p) ≡ false = sym (has_append os (names ys) p) ∙ d.0 in (
-      has_append os (names (insert_row x ys)) p ∙ ap (λ b. has_name os p || b) (has_inserted_name x ys p ∙ ap (λ b. b || has_name (names ys) p) (other_way p x.name apart)) ∙ old,
-      differ_into os x ys rest g d.1,
-    )
-
-differ_all : (os : List ObjId) (xs ys : List Row) → Distinct xs → Apart xs os → Apart xs (names ys) → Differ same_name (os ++ names ys) → Differ same_name (os ++ names (insert_rows xs ys))
-differ_all os [] ys d f g h = h
-differ_all os (x ∷ xs) ys d f g h =
-    differ_into os x (insert_rows xs ys) (f x (inl refl))
-    (has_names (insert_rows xs ys) x.name ∙ none_here xs ys x.name d.0 (sym (has_names ys x.name) ∙ g x (inl refl)))
-    (differ_all os xs ys d.1 (λ y m. f y (inr m)) (λ y m. g y (inr m)) h)
-
-distinct_sub : {xs ys : List Row} → Sub xs ys → Distinct ys → Distinct xs
-distinct_sub none d = d
-distinct_sub (take {x} {xs = us} {ys = vs} p) d = (false_by _ (λ e. no_both _ (any_more (λ (r : Row). same_name r.name x.name) us vs (sub_within p) e) d.0), distinct_sub p d.1)
-distinct_sub (pass p) d = distinct_sub p d.1
-
-distinct_frozen : (xs : List Row) → Distinct xs → Distinct (map frozen_row xs)
-distinct_frozen [] d = d
-distinct_frozen (x ∷ xs) d = (has_frozen xs x.name ∙ d.0, distinct_frozen xs d.1)
-
--- ---- the freeze
 module _ (s : State) (v : Value) (t : WellFormed s) where
   abbrev set : List Row
   set = freeze_set s v

@@ -1,5 +1,6 @@
 pub mod Choice
 pub mod Climb
+pub mod ContentChange
 pub mod ContentLaw
 pub mod Counts
 pub mod CownNames
@@ -12,6 +13,7 @@ pub mod FreezeWhole
 pub mod FurtherSlot
 pub mod Goes
 pub mod Hanging
+pub mod InsertedRows
 pub mod KeptWhole
 pub mod KeyLemmas
 pub mod Least
@@ -27,6 +29,7 @@ pub mod OwnersAfterWrite
 pub mod OwnersGoRound
 pub mod Owning
 pub mod Paths
+pub mod Quiet
 pub mod RegionMoves
 pub mod Relabel
 pub mod SameOwners
@@ -38,3 +41,4 @@ pub mod TextLemmas
 pub mod Watch
 pub mod Without
 pub mod WriteLaw
+pub mod WriteShows

@@ -26,11 +26,11 @@ use Rattle.lf_base.proofs.Members.{Member_any, any_Member, or_true}
 use Rattle.lf_base.proofs.Names.{same_name_is, same_name_itself}
 use Rattle.lf_base.proofs.OwnersGoRound.{none_above}
 use Rattle.lf_base.proofs.Paths.{below_path, in_named}
+use Rattle.lf_base.proofs.Quiet.{few, in_not_frozen, is_or_frozen, local_not_frozen}
 use Rattle.lf_base.proofs.RegionMoves.{became, edge_before, edges_same, frozen_on, in_that, moves_keep, near_on, nothing, region_owner, swap_other, swap_region, swapped, the_new, the_same}
 use Rattle.lf_base.proofs.Sublists.{count_sub}
 use Rattle.lf_base.proofs.Watch.{false_by, field_is, not_true, or_left, or_split, other_is, true_by}
 use Rattle.lf_base.proofs.Without.{some_none}
-use Rattle.lf_base.proofs.WriteLaw.{few, in_not_frozen, is_or_frozen, local_not_frozen}
 
 -- ---- what one owning edge means
 count_some : {X : Type 0} (p : X → Bool) (xs : List X) (x : X) → Member x xs → p x ≡ true → 1 ≤ count_by p xs

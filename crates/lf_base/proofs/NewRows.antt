@@ -1,5 +1,5 @@
 -- A new object and a new region keep a state well-formed.
-use Rattle.std.proofs.Common.{Bool, List, None, Option, Some, [], ap, arith, cond, false, inl, inr, map, not, refl, subst, sym, true, ℕ, ◌&&◌, ◌++◌, ◌+◌, ◌<◌, ◌||◌, ◌∙◌, ◌∷◌, ◌≡◌, ◌≤◌, ◌⊎◌}
+use Rattle.std.proofs.Common.{Bool, List, None, Option, Some, [], ap, arith, cond, false, inl, inr, map, not, refl, subst, sym, true, ℕ, ◌&&◌, ◌++◌, ◌+◌, ◌||◌, ◌∙◌, ◌∷◌, ◌≡◌, ◌≤◌, ◌⊎◌}
 use Rattle.std.proofs.lemmas.List.Sums.{sum_by-cons}
 use Rattle.std.specs.List.{count_by, flat_map}
 use Rattle.lf_base.specs.declared.ids.ObjId.{ObjId}
@@ -7,128 +7,26 @@ use Rattle.lf_base.specs.declared.values.Key.{Key}
 use Rattle.lf_base.specs.declared.values.Owner.{Owner}
 use Rattle.lf_base.specs.declared.values.Owner.TheVariants.{Frozen, In, Local}
 use Rattle.lf_base.specs.declared.values.Value.{Value}
-use Rattle.lf_base.specs.Edges.{Content, Edge, Field, Slot, Source, content_edges, edges, edges_by, field_targets, row_edges, rows_edges, slot_edges}
-use Rattle.lf_base.specs.Names.{cowns_of_value, name_below, same_key, same_name}
-use Rattle.lf_base.specs.Owners.{has_name, has_row, is_bridge, is_in, names, or_frozen, owner_in, owner_of, row_at, row_owner}
+use Rattle.lf_base.specs.Edges.{Content, Edge, Field, Slot, Source, content_edges, edges, rows_edges, slot_edges}
+use Rattle.lf_base.specs.Names.{cowns_of_value, same_key, same_name}
+use Rattle.lf_base.specs.Owners.{has_name, has_row, is_bridge, is_in, names, or_frozen, owner_in, owner_of}
 use Rattle.lf_base.specs.Ownership.{Above, direct, is_from, is_in_other, is_owning, owning_edges, owns, step}
 use Rattle.lf_base.specs.PlainChanges.{insert_row, next_object, with_row}
 use Rattle.lf_base.specs.PlainState.{Row, State}
-use Rattle.lf_base.specs.Sets.{Differ, InOrder, Member}
+use Rattle.lf_base.specs.Sets.{Differ, Member}
 use Rattle.lf_base.specs.WellFormed.{IsNumber, Leads, WellFormed, all_names, content_values, field_values, from_content, from_near, from_row, may_lead, own_cowns, slot_values}
 use Rattle.lf_base.proofs.Dropped.{and_join, and_parts, some_is}
-use Rattle.lf_base.proofs.Goes.{any_none, none_any, none_count}
+use Rattle.lf_base.proofs.Goes.{any_none, none_count}
+use Rattle.lf_base.proofs.InsertedRows.{inserted, inserted_differ, inserted_edges, inserted_name, inserted_order, inserted_owner, inserted_values}
 use Rattle.lf_base.proofs.Lookup.{in_is, no_both, owner_has}
-use Rattle.lf_base.proofs.Members.{Member_any, Member_map, Member_of_map, any_Member, or_true}
+use Rattle.lf_base.proofs.Members.{Member_any, any_Member}
 use Rattle.lf_base.proofs.MovedRows.{has_names}
-use Rattle.lf_base.proofs.Names.{Decides-same_name, same_name_is, same_name_itself}
+use Rattle.lf_base.proofs.Names.{same_name_is, same_name_itself}
 use Rattle.lf_base.proofs.OwnersGoRound.{none_above, round_none}
+use Rattle.lf_base.proofs.Quiet.{in_not_frozen, in_not_local, local_not_frozen}
 use Rattle.lf_base.proofs.SameOwners.{lead_there}
 use Rattle.lf_base.proofs.Sets.{Member_left, Member_of_append, Member_right, Within}
-use Rattle.lf_base.proofs.Sublists.{is_name_below, name_below_trans, order_all, order_cons, order_tail}
-use Rattle.lf_base.proofs.Watch.{false_by, or_left}
-use Rattle.lf_base.proofs.WriteLaw.{in_not_frozen, in_not_local, local_not_frozen}
-
--- ---- a row put among others
-pub inserted : (x : Row) (rows : List Row) (y : Row) → Member y (insert_row x rows) → (x ≡ y) ⊎ Member y rows
-inserted x [] y (inl e) = inl e
-inserted x [] y (inr m) = absurd m
-inserted x (z ∷ zs) y m =
-    elim (name_below x.name z.name) as (λ b. Member y (cond b (x ∷ (z ∷ zs)) (z ∷ insert_row x zs)) → (x ≡ y) ⊎ Member y (z ∷ zs)) [
-      | true ↦ λ n. elim n [ inl e ↦ inl e | inr k ↦ inr k ]
-      | false ↦ λ n. elim n [ inl e ↦ inr (inl e) | inr k ↦ elim (inserted x zs y k) [ inl e ↦ inl e | inr j ↦ inr (inr j) ] ]
-    ] m
-
-pub inserted_name : (x : Row) (rows : List Row) (o : ObjId) → Member o (names (insert_row x rows)) → (x.name ≡ o) ⊎ Member o (names rows)
-inserted_name x rows o m =
-    let y = Member_of_map (λ (r : Row). r.name) o (insert_row x rows) m in
-    elim (inserted x rows y.0 y.1.0) [
-      | inl e ↦ inl (ap (λ (r : Row). r.name) e ∙ y.1.1)
-      | inr k ↦ inr (subst (λ n. Member n (names rows)) y.1.1 (Member_map (λ (r : Row). r.name) y.0 rows k))
-    ]
-
-inserted_owner : (x : Row) (rows : List Row) (o : ObjId) → has_row rows x.name ≡ false → owner_in (insert_row x rows) o ≡ cond (same_name x.name o) (Some (x.owner)) (owner_in rows o)
-inserted_owner x [] o h = elim (same_name x.name o) as (λ b. row_owner (cond b (Some x) None) ≡ cond b (Some (x.owner)) None) [ true ↦ refl | false ↦ refl ]
-inserted_owner x (z ∷ zs) o h =
-    elim (name_below x.name z.name) as (λ b. owner_in (cond b (x ∷ (z ∷ zs)) (z ∷ insert_row x zs)) o ≡ cond (same_name x.name o) (Some (x.owner)) (owner_in (z ∷ zs) o)) [
-      | true ↦ elim (same_name x.name o) as (λ b. row_owner (cond b (Some x) (row_at (z ∷ zs) o)) ≡ cond b (Some (x.owner)) (owner_in (z ∷ zs) o)) [ true ↦ refl | false ↦ refl ]
-      | false ↦ elim (same_name z.name o) as (λ b. same_name z.name o ≡ b → row_owner (cond b (Some z) (row_at (insert_row x zs) o)) ≡ cond (same_name x.name o) (Some (x.owner)) (row_owner (cond b (Some z) (row_at zs o)))) [
-        | true ↦ λ e.
-            let apart : same_name x.name o ≡ false = false_by _ (λ k.
-            let one : z.name ≡ x.name = same_name_is z.name o e ∙ sym (same_name_is x.name o k) in
-            no_both _ (or_left (same_name z.name x.name) (has_row zs x.name) (ap (λ n. same_name n x.name) one ∙ same_name_itself x.name)) h) in
-            sym (ap (λ b. cond b (Some (x.owner)) (Some (z.owner))) apart)
-        | false ↦ λ e. inserted_owner x zs o (false_by _ (λ k. no_both _ (ap (λ b. same_name z.name x.name || b) k ∙ or_true _) h))
-      ] refl
-    ]
-
-inserted_edges : (x : Row) (rows : List Row) → x.fields ≡ [] → rows_edges (insert_row x rows) ≡ rows_edges rows
-inserted_edges x [] h = ap (λ fs. edges_by (Field x.name) (field_targets fs) ++ []) h
-inserted_edges x (z ∷ zs) h =
-    elim (name_below x.name z.name) as (λ b. rows_edges (cond b (x ∷ (z ∷ zs)) (z ∷ insert_row x zs)) ≡ rows_edges (z ∷ zs)) [
-      | true ↦ ap (λ fs. edges_by (Field x.name) (field_targets fs) ++ rows_edges (z ∷ zs)) h
-      | false ↦ ap (λ l. row_edges z ++ l) (inserted_edges x zs h)
-    ]
-
-inserted_values : (x : Row) (rows : List Row) → x.fields ≡ [] → field_values (insert_row x rows) ≡ field_values rows
-inserted_values x [] h = ap (λ fs. map (λ (f : Key × Value). f.1) fs ++ []) h
-inserted_values x (z ∷ zs) h =
-    elim (name_below x.name z.name) as (λ b. field_values (cond b (x ∷ (z ∷ zs)) (z ∷ insert_row x zs)) ≡ field_values (z ∷ zs)) [
-      | true ↦ ap (λ fs. map (λ (f : Key × Value). f.1) fs ++ field_values (z ∷ zs)) h
-      | false ↦ ap (λ l. map (λ (f : Key × Value). f.1) z.fields ++ l) (inserted_values x zs h)
-    ]
-
-which : (a b : ℕ) → (a < b) ⊎ ((b < a) ⊎ (a ≡ b))
-which a b = grind arith
-
--- of two different names one is below the other
-trichotomy : (a b x y : ℕ) → ((a < b) ⊎ ((a ≡ b) × (x < y)) → ⊥) → ((a ≡ b) → (x ≡ y) → ⊥) → (b < a) ⊎ ((b ≡ a) × (y < x))
-trichotomy a b x y n d = elim (which a b) [
-  | inl h ↦ absurd (n (inl h))
-  | inr h ↦ elim h [
-    | inl k ↦ inl k
-    | inr e ↦ elim (which x y) [
-      | inl k ↦ absurd (n (inr (e, k)))
-      | inr k ↦ elim k [ inl j ↦ inr (sym e, j) | inr j ↦ absurd (d e j) ]
-    ]
-  ]
-]
-
-other_below : (a b : ObjId) → name_below a b ≡ false → same_name a b ≡ false → name_below b a ≡ true
-other_below a b n d = is_name_below b a (trichotomy a.birth b.birth a.seq b.seq
-    (λ h. no_both _ (is_name_below a b h) n)
-    (λ e k. no_both _ ((Decides-same_name a b).1 (λ i. record { birth = e i; seq = k i })) d))
-
-pub inserted_order : (x : Row) (rows : List Row) → has_row rows x.name ≡ false → InOrder name_below (names rows) → InOrder name_below (names (insert_row x rows))
-inserted_order x [] h o = tt
-inserted_order x (z ∷ zs) h o =
-    elim (name_below x.name z.name) as (λ b. name_below x.name z.name ≡ b → InOrder name_below (names (cond b (x ∷ (z ∷ zs)) (z ∷ insert_row x zs)))) [
-      | true ↦ λ e. (e, o)
-      | false ↦ λ e.
-          let apart : same_name x.name z.name ≡ false = false_by _ (λ k. no_both _ (or_left (same_name z.name x.name) (has_row zs x.name) (ap (λ n. same_name n x.name) (sym (same_name_is x.name z.name k)) ∙ same_name_itself x.name)) h) in
-          order_cons name_below name_below_trans z.name (names (insert_row x zs))
-          (λ y m. elim (inserted_name x zs y m) [
-            | inl k ↦ ap (name_below z.name) (sym k) ∙ other_below x.name z.name e apart
-            | inr k ↦ order_all name_below name_below_trans z.name (names zs) o y k
-          ])
-          (inserted_order x zs (false_by _ (λ k. no_both _ (ap (λ b. same_name z.name x.name || b) k ∙ or_true _) h)) (order_tail name_below name_below_trans z.name (names zs) o))
-    ] refl
-
-inserted_differ : (x : Row) (rows : List Row) (os : List ObjId) → ((o : ObjId) → Member o (names rows ++ os) → same_name o x.name ≡ false) → Differ same_name (names rows ++ os) → Differ same_name (names (insert_row x rows) ++ os)
-inserted_differ x [] os f d = (any_none (λ y. same_name y x.name) os f, d)
-inserted_differ x (z ∷ zs) os f d =
-    elim (name_below x.name z.name) as (λ b. Differ same_name (names (cond b (x ∷ (z ∷ zs)) (z ∷ insert_row x zs)) ++ os)) [
-      | true ↦ (any_none (λ y. same_name y x.name) (names (z ∷ zs) ++ os) f, d)
-      | false ↦ (
-        any_none (λ y. same_name y z.name) (names (insert_row x zs) ++ os) (λ y m. elim (Member_of_append y (names (insert_row x zs)) os m) [
-          | inl k ↦ elim (inserted_name x zs y k) [
-            | inl e ↦ ap (λ n. same_name n z.name) (sym e) ∙ false_by _ (λ h. no_both _ (ap (λ n. same_name n x.name) (sym (same_name_is x.name z.name h)) ∙ same_name_itself x.name) (f z.name (inl refl)))
-            | inr j ↦ none_any (λ w. same_name w z.name) (names zs ++ os) d.0 y (Member_left y (names zs) os j)
-          ]
-          | inr k ↦ none_any (λ w. same_name w z.name) (names zs ++ os) d.0 y (Member_right y (names zs) os k)
-        ]),
-        inserted_differ x zs os (λ o m. f o (inr m)) d.1,
-      )
-    ]
+use Rattle.lf_base.proofs.Watch.{false_by}
 
 -- ---- the new row
 abbrev pub NewOwner : State → Owner → Type 0

@@ -21,9 +21,10 @@ use Rattle.lf_base.proofs.Members.{Member_any, Member_map, any_Member}
 use Rattle.lf_base.proofs.MovedRows.{differ_rows, edges_relabel, moved_names}
 use Rattle.lf_base.proofs.Names.{same_name_is, same_name_itself}
 use Rattle.lf_base.proofs.OwnersGoRound.{none_above, round_none}
+use Rattle.lf_base.proofs.Quiet.{in_not_local}
 use Rattle.lf_base.proofs.Sets.{Member_left, Member_right}
 use Rattle.lf_base.proofs.Watch.{false_by, field_is, not_true}
-use Rattle.lf_base.proofs.WriteLaw.{Changes, frozen_other, in_not_local, kind, region_changes, shifted, unmoved}
+use Rattle.lf_base.proofs.WriteLaw.{Changes, frozen_other, kind, region_changes, shifted, unmoved}
 
 -- a row that isn't written is there still
 row_other : (rows : List Row) (x : ObjId) (k : Key) (v : Value) (y : Row) → Member y rows → same_name y.name x ≡ false → Member y (write_fields rows x k v)

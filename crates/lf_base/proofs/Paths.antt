@@ -16,12 +16,11 @@ use Rattle.lf_base.specs.PlainState.{Row, State}
 use Rattle.lf_base.specs.Sets.{Member, grow, least}
 use Rattle.lf_base.specs.WalkCounts.{borrowed, is_open}
 use Rattle.lf_base.proofs.Dropped.{Sub, and_parts, sub_filter}
-use Rattle.lf_base.proofs.Least.{Grows, least_closed, least_in, next}
+use Rattle.lf_base.proofs.Least.{Grows, least_closed, least_in}
 use Rattle.lf_base.proofs.Members.{Member_any, any_Member, any_more, or_true}
-use Rattle.lf_base.proofs.MovedRows.{joins, move_start, move_step}
+use Rattle.lf_base.proofs.MovedRows.{move_start, move_step}
 use Rattle.lf_base.proofs.Names.{same_name_is, same_name_itself}
 use Rattle.lf_base.proofs.OwnersGoRound.{bridge_listed}
-use Rattle.lf_base.proofs.RegionMoves.{rows}
 use Rattle.lf_base.proofs.Sets.{Member_filter, Member_of_filter}
 use Rattle.lf_base.proofs.Watch.{local_is, or_left, or_split}
 

@@ -87,10 +87,10 @@ module _ (b : ObjId) (w : Owner) where
   ] refl
 
   module _ (s : State) (t : WellFormed s) where
-    abbrev pub rows : List Row
+    abbrev rows : List Row
     rows = relabel_region s.rows b w
 
-    abbrev pub after : State
+    abbrev after : State
     after = with_rows s rows
 
     pub edges_same : edges after ≡ edges s

@@ -22,8 +22,9 @@ use Rattle.lf_base.proofs.Lookup.{owner_mem}
 use Rattle.lf_base.proofs.Members.{Member_any, Member_flat_map, Member_map, Member_of_flat_map, Member_of_map, any_Member}
 use Rattle.lf_base.proofs.MovedRows.{differ_rows}
 use Rattle.lf_base.proofs.OwnersGoRound.{none_above, round_none}
+use Rattle.lf_base.proofs.Quiet.{lead_near}
 use Rattle.lf_base.proofs.Sets.{Member_left, Member_of_append, Member_right}
-use Rattle.lf_base.proofs.WriteLaw.{lead_near, mutable_at}
+use Rattle.lf_base.proofs.WriteLaw.{mutable_at}
 
 abbrev pub with_both : State → List (Option Value) → List Row → State
 with_both s slots rows = record s { slots = slots; rows = rows }

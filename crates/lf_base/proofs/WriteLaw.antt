@@ -1,6 +1,5 @@
--- A write keeps the topology exactly where it is not refused.
-use Rattle.std.proofs.Common.{Bool, List, None, Option, Some, [], ap, arith, cond, false, inl, inr, map, not, refl, subst, sym, true, ℕ, ◌&&◌, ◌++◌, ◌<◌, ◌||◌, ◌∙◌, ◌∷◌, ◌≡◌, ◌≤◌, ◌⊎◌}
-use Rattle.std.proofs.lemmas.Bool.Decides.{Decides-ltb}
+-- A write keeps a state well-formed exactly where it is not refused.
+use Rattle.std.proofs.Common.{Bool, List, None, Option, Some, [], ap, cond, false, inl, inr, map, not, refl, subst, sym, true, ◌&&◌, ◌++◌, ◌||◌, ◌∙◌, ◌≡◌, ◌⊎◌}
 use Rattle.std.specs.Prelude.{ltb}
 use Rattle.lf_base.specs.declared.ids.ObjId.{ObjId}
 use Rattle.lf_base.specs.declared.values.Key.{Key}
@@ -15,99 +14,19 @@ use Rattle.lf_base.specs.Ownership.{is_in_other, owning_edges, round}
 use Rattle.lf_base.specs.PlainState.{Row, State}
 use Rattle.lf_base.specs.Sets.{Differ, InOrder, Member}
 use Rattle.lf_base.specs.WellFormed.{Leads, SlotMayHold, WellFormed, field_values, from_content, from_inner, from_near, from_row, may_lead}
-use Rattle.lf_base.specs.WriteResult.{fault_shown, first_shown, is_at, is_inner_source, is_some_list, leads_inside, moved, put_field, refusal_by, relabel, shows_interior, shows_round, shows_two, write_fields, write_refusal, write_result}
+use Rattle.lf_base.specs.WriteResult.{fault_shown, is_at, is_inner_source, leads_inside, moved, put_field, refusal_by, relabel, shows_interior, shows_round, shows_two, write_fields, write_refusal, write_result}
 use Rattle.lf_base.proofs.Counts.{Distinct, with_rows}
 use Rattle.lf_base.proofs.CownNames.{cowns_from, relabel_values, values_by_rows, write_values}
-use Rattle.lf_base.proofs.Dropped.{and_join, and_parts, in_region, row_of, some_is}
-use Rattle.lf_base.proofs.Goes.{any_none, at_content, at_frozen, at_row, at_slot, begins, none_any}
+use Rattle.lf_base.proofs.Dropped.{in_region, row_of, some_is}
+use Rattle.lf_base.proofs.Goes.{at_content, at_frozen, at_row, at_slot, begins, none_any}
 use Rattle.lf_base.proofs.LocalWrite.{IsNew, edges_write, owner_write}
-use Rattle.lf_base.proofs.Lookup.{in_is, no_both, owner_has, owner_mem, to_local}
+use Rattle.lf_base.proofs.Lookup.{in_is, no_both, owner_has, owner_mem}
 use Rattle.lf_base.proofs.Members.{Member_map, Member_of_map, any_more}
 use Rattle.lf_base.proofs.MovedRows.{KeysDiffer, differ_apart, differ_rows, edges_relabel, has_names, keys_put, moved_local, moved_names, moved_start, moved_step, names_relabel, names_write}
+use Rattle.lf_base.proofs.Quiet.{empty_list, few, in_not_frozen, in_not_local, inner_quiet, is_or_frozen, lead_local, lead_near, local_not_frozen, none_shown, nor_or, well_formed_quiet}
 use Rattle.lf_base.proofs.Relabel.{owner_over, owner_relabel}
-use Rattle.lf_base.proofs.Sets.{Member_filter, Member_left, Member_of_append, Member_of_filter, Member_right}
-use Rattle.lf_base.proofs.Watch.{false_by, field_is, or_split, other_is}
-
-pub lead_near : (a : Option Owner) (t : ObjId) (b : Option Owner) → from_row a t b ≡ true → from_near b ≡ true
-lead_near a t (Some w) e = refl
-lead_near None t None e = e
-lead_near (Some Local) t None e = e
-lead_near (Some (In r)) t None e = e
-lead_near (Some Frozen) t None e = e
-
-lead_local : (a : Option Owner) (t : ObjId) → from_row a t (Some Local) ≡ true → a ≡ Some Local
-lead_local None t e = cc
-lead_local (Some w) t e = ap Some (to_local w t e)
-
-pub is_or_frozen : (b : Bool) (w : Option Owner) (v : Owner) → (v ≡ Frozen → ⊥) → or_frozen b w ≡ Some v → w ≡ Some v
-is_or_frozen b (Some u) v n e = e
-is_or_frozen true None v n e = absurd (n (some_is v Frozen (sym e)))
-is_or_frozen false None v n e = cc
-
-pub local_not_frozen : Local ≡ Frozen → ⊥
-local_not_frozen e = cc
-
-pub in_not_frozen : (q : ObjId) → In q ≡ Frozen → ⊥
-in_not_frozen q e = cc
-
-pub in_not_local : (q : ObjId) → Some (In q) ≡ Some Local → ⊥
-in_not_local q e = cc
-
-nor_or : (a b : Bool) → (not a && not b) ≡ false → (a || b) ≡ true
-nor_or true b e = refl
-nor_or false true e = refl
-nor_or false false e = cc
-
-or_nor : (a b : Bool) → (a || b) ≡ true → (not a && not b) ≡ false
-or_nor true b e = refl
-or_nor false true e = refl
-or_nor false false e = cc
-
-empty_list : {X : Type 0} (xs : List X) → is_some_list xs ≡ false → xs ≡ []
-empty_list [] e = refl
-empty_list (x ∷ xs) e = cc
-
-below_or : (n : ℕ) → (1 < n) ⊎ (n ≤ 1)
-below_or n = grind arith
-
-pub few : (n : ℕ) → ltb 1 n ≡ false → n ≤ 1
-few n e = elim (below_or n) [ inl h ↦ absurd (no_both _ ((Decides-ltb 1 n).1 h) e) | inr h ↦ h ]
-
-pub many : (n : ℕ) → n ≤ 1 → ltb 1 n ≡ false
-many n h = false_by _ (λ e. let k : 1 < n = (Decides-ltb 1 n).0 e in absurd (omega arith))
-
-pub record NoneShown (a b c : Bool) : Type 0 where
-  pub first : a ≡ false
-  pub second : b ≡ false
-  pub third : c ≡ false
-
-none_shown : (a b c : Bool) → first_shown a b c ≡ None → NoneShown a b c
-none_shown false false false e = record { first = refl; second = refl; third = refl }
-none_shown true b c e = cc
-none_shown false true c e = cc
-none_shown false false true e = cc
-
--- ---- a state with the topology shows no fault
-inner_quiet : (s : State) (f : Source) (t : ObjId) → may_lead s f t ≡ true → (b : Option Owner) → owner_in s.rows t ≡ b → leads_inside s.rows (record { from = f; to = t }) b ≡ false
-inner_quiet s f t l None h = refl
-inner_quiet s f t l (Some Local) h = refl
-inner_quiet s f t l (Some Frozen) h = refl
-inner_quiet s Slot t l (Some (In q)) h = refl
-inner_quiet s (Content c) t l (Some (In q)) h = refl
-inner_quiet s (Field p) t l (Some (In q)) h = false_by _ (λ e.
-    let a = and_parts (is_in_other q (owner_in s.rows p)) (not (same_name q t)) e in
-    let o = other_is q (owner_in s.rows p) a.0 in
-    let k : from_inner o.region t (Some (In q)) ≡ true = (λ i. from_row (or_frozen (has_row s.given p || has_row s.own p) (sym o.is i)) t (or_frozen (has_row s.given t || has_row s.own t) (sym h i))) ∙ l in
-    no_both _ (and_join _ _ (ap not o.other) a.1) (or_nor (same_name o.region q) (same_name q t) k))
-
-pub interior_quiet : (s : State) → Leads s → shows_interior s ≡ false
-interior_quiet s l = any_none (λ e. leads_inside s.rows e (owner_in s.rows e.to)) (edges s) (λ e m. inner_quiet s e.from e.to (l e m) (owner_in s.rows e.to) refl)
-
-pub well_formed_quiet : (s : State) → WellFormed s → fault_shown s ≡ None
-well_formed_quiet s t =
-    (λ i. first_shown (interior_quiet s t.leads i)
-    (any_none (λ r. ltb 1 (owning_edges s r)) (bridges s) (λ r m. many (owning_edges s r) (t.one_owner r (Member_of_filter (is_bridge s.rows) r (map (λ r. r.name) s.rows) m).1)) i)
-    (is_some_list (t.no_round i)))
+use Rattle.lf_base.proofs.Sets.{Member_filter, Member_left, Member_of_append, Member_right}
+use Rattle.lf_base.proofs.Watch.{false_by, field_is, or_split}
 
 -- a mutable row isn't Frozen, by its name
 pub mutable_at : (s : State) → WellFormed s → (o : ObjId) → owner_in s.rows o ≡ Some Frozen → ⊥

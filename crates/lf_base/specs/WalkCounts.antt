@@ -1,8 +1,9 @@
 -- The counts, as walks over the edges.
-use Rattle.std.specs.Prelude.{Bool, List, count_by, false, ltb, true, ℕ, ◌&&◌, ◌||◌}
+use Rattle.std.specs.Prelude.{Bool, List, Option, count_by, false, ltb, true, ℕ, ◌&&◌, ◌||◌}
 use Rattle.std.specs.List.{list_any}
 use Rattle.lf_base.specs.declared.ids.ObjId.{ObjId}
-use Rattle.lf_base.specs.Edges.{Content, Edge, Field, Slot, Source, edges}
+use Rattle.lf_base.specs.declared.values.Value.{Value}
+use Rattle.lf_base.specs.Edges.{Content, Edge, Field, Slot, Source, edges, slot_targets}
 use Rattle.lf_base.specs.Names.{same_name}
 use Rattle.lf_base.specs.Owners.{bridges, is_in, is_local_at, owner_in}
 use Rattle.lf_base.specs.Ownership.{below, owns}
@@ -11,6 +12,10 @@ use Rattle.lf_base.specs.PlainState.{Row, State}
 -- the number of edges to object o
 abbrev pub refs : State → ObjId → ℕ
 refs s o = count_by (λ e. same_name e.to o) (edges s)
+
+-- what a place that holds this counts for object o: 1 where it refers to o, else 0
+abbrev pub counted : ObjId → Option Value → ℕ
+counted o w = count_by (λ p. same_name p o) (slot_targets w)
 
 -- an edge from here borrows what it leads to: it begins at a slot or at a local row
 abbrev pub is_borrower : List Row → Source → Bool

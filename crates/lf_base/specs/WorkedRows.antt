@@ -1,16 +1,21 @@
 -- Worked rows: short scripts, and what the definitions say of them.
 use Rattle.std.specs.Prelude.{None, Some, [], true, ℕ, ◌∷◌, ◌≡◌}
-use Rattle.lf_base.specs.declared.faults.Fault.TheVariants.{Cycle, Interior, Open, SecondOwner}
+use Rattle.lf_base.specs.declared.faults.Fault.TheVariants.{Cycle, FrozenWrite, Interior, Kind, LocalInCown, NoField, NotAcquired, NotBridge, NotObject, Open, Owned, SecondOwner, Unset}
 use Rattle.lf_base.specs.declared.ids.ObjId.{ObjId}
-use Rattle.lf_base.specs.declared.values.Owner.TheVariants.{In}
+use Rattle.lf_base.specs.declared.values.Owner.TheVariants.{In, Local}
 use Rattle.lf_base.specs.declared.values.Value.TheVariants.{Obj}
+use Rattle.lf_base.specs.Accesses.{read_refusal, read_value, remove_refusal, store_refusal, store_result}
+use Rattle.lf_base.specs.CloseResult.{close_refusal}
+use Rattle.lf_base.specs.DissolveResult.{dissolve_refusal}
 use Rattle.lf_base.specs.EndResult.{end_result}
+use Rattle.lf_base.specs.Kept.{kept}
 use Rattle.lf_base.specs.MergeResult.{merge_refusal}
+use Rattle.lf_base.specs.Names.{key_of}
 use Rattle.lf_base.specs.Owners.{names}
 use Rattle.lf_base.specs.PlainChanges.{slot_at}
 use Rattle.lf_base.specs.PlainState.{State}
 use Rattle.lf_base.specs.Questions.{FrozenObject, LocalObject, RegionObject}
-use Rattle.lf_base.specs.Scripts.{Close, Copy, Dissolve, Forget, Freeze, Guard, Merge, NewObject, NewRegion, Store, StoreZero, after_script, after_statement, ask_borrowed, ask_is_closed, ask_open_children, ask_owner, ask_refs, guard_refusal, script, set_refusal, var}
+use Rattle.lf_base.specs.Scripts.{Close, Copy, Dissolve, Forget, Freeze, Guard, Merge, NewObject, NewRegion, Store, StoreZero, after_script, after_statement, ask_borrowed, ask_is_closed, ask_open_children, ask_owner, ask_refs, guard_refusal, script, set_refusal, text, var}
 use Rattle.lf_base.specs.declared.values.Value.TheVariants as value
 
 -- the object that the script made as its n-th
@@ -210,3 +215,58 @@ abbrev pub JudgedBeforeDroppingShows : Type 0
 JudgedBeforeDroppingShows =
     (set_refusal owned_within 0 6 1 ≡ Some SecondOwner)
     × (set_refusal (after_statement owned_within (StoreZero 0 6)) 0 6 1 ≡ None)
+
+-- x = {}; freeze(x)
+abbrev pub frozen_object : State
+frozen_object = script (NewObject 0 ∷ Freeze 0 ∷ [])
+
+-- then x.f = x and move x.f are refused, and reading a field that isn't there
+abbrev pub FrozenWriteShows : Type 0
+FrozenWriteShows =
+    (set_refusal frozen_object 0 5 0 ≡ Some FrozenWrite)
+    × (remove_refusal frozen_object (var frozen_object 0) (text 5) ≡ Some FrozenWrite)
+    × (read_refusal frozen_object (var frozen_object 0) (text 5) ≡ Some NoField)
+
+-- a = Region(); b = Region(); q = Region(); q.b = b
+abbrev pub owned_region : State
+owned_region = script (NewRegion 0 ∷ NewRegion 1 ∷ NewRegion 2 ∷ Store 2 5 1 ∷ [])
+
+-- then merge(a, b) and dissolve(b) are refused, and merge(q, b) isn't
+abbrev pub OwnedShows : Type 0
+OwnedShows =
+    (merge_refusal owned_region (var owned_region 0) (var owned_region 1) ≡ Some Owned)
+    × (dissolve_refusal owned_region (var owned_region 1) ≡ Some Owned)
+    × (merge_refusal owned_region (var owned_region 2) (var owned_region 1) ≡ None)
+
+-- r = Region(); x = {}; c = Cown(move r)
+abbrev pub guarded : State
+guarded = script (NewRegion 0 ∷ NewObject 1 ∷ Guard 2 0 ∷ [])
+
+-- then Cown(move x) is refused, and each access to c, which isn't held
+abbrev pub GuardedShows : Type 0
+GuardedShows =
+    (guard_refusal guarded 1 ≡ Some LocalInCown)
+    × (read_refusal guarded (var guarded 2) (text 0) ≡ Some NotAcquired)
+    × (set_refusal guarded 2 0 1 ≡ Some NotAcquired)
+
+-- the same state in the hands of a behaviour that holds c
+abbrev pub holding : State
+holding = record guarded { held = guarded.made; made = [] }
+
+-- then c.value is the region, another key is refused, and so is a local object as the content; an empty content isn't
+abbrev pub HoldingShows : Type 0
+HoldingShows =
+    (read_value holding (var holding 2) (key_of (text 0)) ≡ Some (Obj (ob 1)))
+    × (read_refusal holding (var holding 2) (text 5) ≡ Some NoField)
+    × (set_refusal holding 2 0 1 ≡ Some LocalInCown)
+    × (store_refusal holding (var holding 2) (text 0) value.None ≡ None)
+    × ((kept (store_result holding (var holding 2) (key_of (text 0)) value.None)).rows ≡ record { name = ob 2; owner = Local; fields = [] } ∷ [])
+
+-- what comes before all: a plain value as target, and a key of a wrong kind; and questions and closings of what is no bridge, or unset
+abbrev pub PlainRefusalsShow : Type 0
+PlainRefusalsShow =
+    (read_refusal guarded value.None (text 5) ≡ Some NotObject)
+    × (read_refusal guarded (var guarded 1) value.None ≡ Some Kind)
+    × (ask_borrowed guarded 1 ≡ None)
+    × (close_refusal guarded 1 ≡ Some NotBridge)
+    × (close_refusal guarded 0 ≡ Some Unset)

@@ -1,7 +1,7 @@
 //! Short scripts on which the definitions of ownership, counts and dropping are
 //! tried. Each function has an empty body; its clause is the row.
 
-ghost use Rattle.lf_base.specs.WorkedRows.{BorrowedCownShows, ClosedRegionShows, DissolvesShow, FreedChildShows, FreezeInnerShows, FreezeRegionShows, HeldByInnerShows, InteriorShows, JudgedBeforeDroppingShows, LivingCycleShows, MergesShow, MovedGraphShows, OpenCownShows, OrphanedChildShows, OwnerCycleShows, RefusedUnchangedShows, ReplacedOwnerShows, SecondOwnerShows, SelfEdgeShows};
+ghost use Rattle.lf_base.specs.WorkedRows.{BorrowedCownShows, ClosedRegionShows, DissolvesShow, FreedChildShows, FreezeInnerShows, FreezeRegionShows, FrozenWriteShows, GuardedShows, HeldByInnerShows, HoldingShows, InteriorShows, JudgedBeforeDroppingShows, LivingCycleShows, MergesShow, MovedGraphShows, OpenCownShows, OrphanedChildShows, OwnedShows, OwnerCycleShows, PlainRefusalsShow, RefusedUnchangedShows, ReplacedOwnerShows, SecondOwnerShows, SelfEdgeShows};
 
 /// A write into a region moves the stored object and what it reaches.
 pub fn moved_graph()
@@ -96,4 +96,29 @@ pub fn closed_region()
 /// A write is judged before anything is dropped.
 pub fn judged_before_dropping()
     ensures { JudgedBeforeDroppingShows }
+{}
+
+/// A frozen object's fields are neither written nor taken.
+pub fn frozen_write()
+    ensures { FrozenWriteShows }
+{}
+
+/// An owned region is neither dissolved nor merged into another than its owner.
+pub fn owned()
+    ensures { OwnedShows }
+{}
+
+/// A cown takes no local object, and gives nothing to who doesn't hold it.
+pub fn guarded()
+    ensures { GuardedShows }
+{}
+
+/// Who holds a cown reads and replaces its content.
+pub fn holding()
+    ensures { HoldingShows }
+{}
+
+/// Targets, keys and variables of a wrong kind are refused first.
+pub fn plain_refusals()
+    ensures { PlainRefusalsShow }
 {}
