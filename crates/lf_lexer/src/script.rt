@@ -12,9 +12,8 @@ use std::alloc::Global;
 
 /// The tokens and texts of a script of at most `MOST_SCRIPT_BYTES`.
 ///
-/// `Refused` comes exactly where a line is no line of the first form, with the
-/// first column of the first such line. `OutOfMemory` comes only where memory
-/// runs out.
+/// `Refused` comes exactly where the tokens of the first form spell not every line,
+/// with the first column of the first such line. `OutOfMemory` is free.
 pub fn lex(alloc: Global, bytes: &[u8]) -> Result<Lexed, ReadFail>
     requires { length bytes.now ≤ MOST_SCRIPT_BYTES }
     ensures spelled { IfOk result (λ lexed. Spells bytes.now lexed.tokens lexed.texts) }
