@@ -7,6 +7,7 @@ use Rattle.lf_base.specs.declared.values.Owner.{Owner}
 use Rattle.lf_base.specs.declared.values.Owner.TheVariants.{Frozen, In, Local}
 use Rattle.lf_base.specs.Edges.{Content, Edge, Field, Slot, Source, edges}
 use Rattle.lf_base.specs.EndResult.{end_result, without_near}
+use Rattle.lf_base.specs.Kept.{kept}
 use Rattle.lf_base.specs.Names.{is_local}
 use Rattle.lf_base.specs.Owners.{has_row, is_in, is_local_at, names, or_frozen, owner_in}
 use Rattle.lf_base.specs.Ownership.{below}
@@ -19,7 +20,7 @@ use Rattle.lf_base.specs.WellFormed.{WellFormed, from_content, may_lead}
 use Rattle.lf_base.proofs.Counts.{Distinct}
 use Rattle.lf_base.proofs.Dropped.{row_of}
 use Rattle.lf_base.proofs.Goes.{any_none, at_content, at_frozen, at_row, at_slot, begins, none_count, rest_within}
-use Rattle.lf_base.proofs.KeptWhole.{frozen_leads_on, well_formed_kept}
+use Rattle.lf_base.proofs.KeptWhole.{frozen_leads_on, kept_again, well_formed_kept}
 use Rattle.lf_base.proofs.LeftWhole.{MayLeave, left_well_formed}
 use Rattle.lf_base.proofs.Lookup.{kept_in, no_both, owner_has, owner_mem, row_leads, to_local}
 use Rattle.lf_base.proofs.MovedRows.{differ_rows}
@@ -83,6 +84,9 @@ module _ (s : State) (t : WellFormed s) where
 
   without_near_whole : WellFormed (without_near s)
   without_near_whole = subst (λ rows. WellFormed (record s { slots = []; rows = rows })) (sym rows_left) (left_well_formed bare local_name bare_whole local_may_leave)
+
+  pub end_again : kept (end_result s) ≡ end_result s
+  end_again = kept_again (without_near s) without_near_whole
 
   pub end_keeps : WellFormed (end_result s)
   end_keeps = well_formed_kept (without_near s) without_near_whole

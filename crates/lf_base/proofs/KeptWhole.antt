@@ -24,6 +24,7 @@ use Rattle.lf_base.proofs.Sets.{Member_filter, Member_left, Member_of_filter, Me
 use Rattle.lf_base.proofs.Setting.{setting_of}
 use Rattle.lf_base.proofs.Stays.{by_owner}
 use Rattle.lf_base.proofs.Watch.{Setting, bare_region, edge_points, false_by, kept_row, not_true, or_left, owning_seen, source, stays_all, true_by}
+use Rattle.lf_base.proofs.Without.{kept_without}
 use Rattle.lf_base.proofs.WriteLaw.{mutable_at}
 
 module _ (s : State) (t : WellFormed s) where
@@ -160,3 +161,8 @@ module _ (s : State) (t : WellFormed s) where
 
   pub well_formed_kept : WellFormed (kept s)
   well_formed_kept = subst (λ rows. WellFormed (record s { rows = rows })) (sym kept_is_left) (well_formed_without s lost t lost_can_go)
+
+  -- all of what stays stays again
+  pub kept_again : kept (kept s) ≡ kept s
+  kept_again = ap (λ rows. record s { rows = rows })
+      (ap (λ rows. kept_rows (record s { rows = rows })) kept_is_left ∙ kept_without s g lost lost_can_go)

@@ -160,16 +160,19 @@ pub fn close_keeps()
     ensures { (s : State) (at : ℕ) (r : ObjId) → WellFormed s → WellFormed (close_result s at r) }
 {}
 
-/// The end of a behaviour leaves a well-formed state in which every region is
-/// closed.
+/// The end of a behaviour leaves a well-formed state of which all rows stay, and in
+/// which every region is closed.
 pub fn end_keeps()
     ensures well_formed { (s : State) → WellFormed s → WellFormed (end_result s) }
+    ensures all_stay { (s : State) → WellFormed s → kept (end_result s) ≡ end_result s }
     ensures closed { (s : State) (r : ObjId) → is_open (end_result s) r ≡ false }
 {}
 
-/// The rows that stay of a well-formed state make a well-formed state.
+/// The rows that stay of a well-formed state make a well-formed state, of which all
+/// rows stay.
 pub fn kept_is_well_formed()
-    ensures { (s : State) → WellFormed s → WellFormed (kept s) }
+    ensures well_formed { (s : State) → WellFormed s → WellFormed (kept s) }
+    ensures all_stay { (s : State) → WellFormed s → kept (kept s) ≡ kept s }
 {}
 
 /// Where whatever nothing justifies is itself a suspect, each row that must go
