@@ -1,7 +1,7 @@
 -- What the changes of a list of regions do to each name.
-use Rattle.std.proofs.Common.{◌≡◌, ◌∙◌, ◌&&◌, ◌||◌, ◌↔◌, List, [], ◌∷◌, Option, Some, None, ap, Bool, cond, false, filter, map, not, refl, sym, true, inl, inr, subst, true≢false, unwrap_or, option_map}
-use Rattle.std.proofs.lemmas.Bool.{both_ways, cases_Bool, or_parts}
-use Rattle.std.specs.List.{find, list_all, list_any}
+use Rattle.std.proofs.Common.{◌≡◌, ◌∙◌, ◌&&◌, ◌||◌, ◌↔◌, List, [], ◌∷◌, Option, Some, None, ap, Bool, cond, false, map, not, refl, sym, true, inl, inr, subst, true≢false, unwrap_or, option_map}
+use Rattle.std.proofs.lemmas.Bool.{both_ways, or_parts}
+use Rattle.std.specs.List.{find}
 use Rattle.lf_base.specs.declared.ids.ObjId.{ObjId}
 use Rattle.lf_base.specs.Names.{name_below, same_name}
 use Rattle.lf_base.specs.Sets.{InOrder, Member}
@@ -10,7 +10,7 @@ use Rattle.lf_base.proofs.Names.{same_name_is, same_name_itself}
 use Rattle.lf_regions.specs.declared.region.Region.{Region}
 use Rattle.lf_regions.specs.Keeping.{names_rise}
 use Rattle.lf_regions.specs.NextName.{is_above, next_name}
-use Rattle.lf_regions.specs.RegionChanges.{borrowed_at, new_region, owned_at, with_borrowed, with_owned, with_region, without_region}
+use Rattle.lf_regions.specs.RegionChanges.{new_region, with_region, without_region}
 use Rattle.lf_regions.specs.Regions.{has_region, names, region_named}
 use Rattle.lf_regions.specs.RisingNames.{Rising}
 use Rattle.lf_regions.proofs.NameOrder.{below_apart, below_not_above, same_name_flip}

@@ -1,7 +1,7 @@
 -- What a slab and an index say of the list of regions that they keep.
-use Rattle.std.proofs.Common.{◌≡◌, ◌≢◌, ◌∙◌, ◌&&◌, ◌||◌, ℕ, List, [], ◌∷◌, Option, Some, None, ap, Bool, cond, false, filter, map, not, refl, sym, true, inl, inr, is_some, slice_index_or, subst, unwrap_or, true≢false}
-use Rattle.std.proofs.lemmas.Bool.{and_from, and_parts, cases_Bool, cases_eq, or_parts, both_ways}
-use Rattle.std.specs.List.{find, list_all, list_any}
+use Rattle.std.proofs.Common.{◌≡◌, ◌≢◌, ◌∙◌, ◌||◌, ℕ, List, [], ◌∷◌, Option, Some, None, ap, Bool, cond, false, filter, map, not, refl, sym, true, inl, inr, is_some, slice_index_or, subst, unwrap_or, true≢false}
+use Rattle.std.proofs.lemmas.Bool.{and_from, and_parts, or_parts, both_ways}
+use Rattle.std.specs.List.{list_all}
 use Rattle.std.specs.Map.{keys_of, lookup, remove_entry}
 use Rattle.std.specs.BTreeMap.{insert_entry, is_at}
 use Rattle.std.specs.Option.{option_and_then, option_map_or}
@@ -17,7 +17,7 @@ use Rattle.lf_base.proofs.Names.{same_name_is, same_name_itself}
 use Rattle.lf_base.proofs.Sets.{Member_of_filter}
 use Rattle.lf_regions.specs.declared.region.Region.{Region}
 use Rattle.lf_regions.specs.Keeping.{Entry, Keeps, is_named, leads, names_rise, region_at, regions_at}
-use Rattle.lf_regions.specs.RegionChanges.{borrowed_at, new_region, owned_at, with_borrowed, with_owned, with_region, without_region}
+use Rattle.lf_regions.specs.RegionChanges.{new_region, with_borrowed, with_owned, with_region, without_region}
 use Rattle.lf_regions.specs.Regions.{borrowed_of, has_region, names, owned_of, region_named}
 use Rattle.lf_regions.specs.RisingNames.{Rising}
 use Rattle.lf_regions.proofs.NameOrder.{below_cmp, name_cmp, same_cmp, same_name_flip}

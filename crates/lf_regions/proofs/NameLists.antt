@@ -1,17 +1,15 @@
 -- Lists of names in order, and what the changes of a list of regions do to its names.
-use Rattle.std.proofs.Common.{◌≡◌, ◌∙◌, ◌&&◌, ◌||◌, List, [], ◌∷◌, Option, Some, None, ap, Bool, cond, false, filter, map, not, refl, sym, true, inl, inr, subst, true≢false}
-use Rattle.std.proofs.lemmas.Bool.{and_from, and_parts, cases_Bool, or_from, or_parts}
-use Rattle.std.specs.List.{find, list_all, list_any}
+use Rattle.std.proofs.Common.{◌≡◌, ◌∙◌, List, [], ◌∷◌, ap, Bool, cond, false, filter, map, not, refl, sym, true, inl, inr}
+use Rattle.std.proofs.lemmas.Bool.{and_from, and_parts, or_parts}
+use Rattle.std.specs.List.{list_all}
 use Rattle.lf_base.specs.declared.ids.ObjId.{ObjId}
 use Rattle.lf_base.specs.Names.{name_below, same_name}
 use Rattle.lf_base.specs.Sets.{InOrder, Member}
-use Rattle.lf_base.proofs.Names.{same_name_is, same_name_itself}
 use Rattle.lf_regions.specs.declared.region.Region.{Region}
 use Rattle.lf_regions.specs.Keeping.{names_rise}
 use Rattle.lf_regions.specs.RegionChanges.{new_region, with_region, without_region}
 use Rattle.lf_regions.specs.Regions.{has_region, names}
-use Rattle.lf_regions.specs.RisingNames.{Rising}
-use Rattle.lf_regions.proofs.NameOrder.{below_apart, name_below_trans, not_below, same_name_flip}
+use Rattle.lf_regions.proofs.NameOrder.{below_apart, name_below_trans, not_below}
 
 module _ {X : Type 0} (p : X → Bool) where
   -- a test that holds of a list holds of its members

@@ -1,12 +1,11 @@
 -- The next name, as a range of the index begins.
 use Rattle.std.proofs.Common.{◌≡◌, ◌∙◌, ◌&&◌, List, [], ◌∷◌, Option, Some, None, ap, Bool, cond, refl, sym, true, false}
-use Rattle.std.specs.List.{filter, find}
+use Rattle.std.specs.List.{find}
 use Rattle.std.specs.Map.{keys_of}
 use Rattle.std.specs.BTreeMap.Range.{entries_between, range_contains}
 use Rattle.std.specs.declared.ops.Bound.TheVariants.{Unbounded}
 use Rattle.slab.specs.Slab.{Slab}
 use Rattle.lf_base.specs.declared.ids.ObjId.{ObjId}
-use Rattle.lf_base.specs.Names.{name_below}
 use Rattle.lf_regions.specs.declared.region.Region.{Region}
 use Rattle.lf_regions.specs.Keeping.{Entry, Keeps, regions_at, start_above}
 use Rattle.lf_regions.specs.NextName.{is_above, next_name}
