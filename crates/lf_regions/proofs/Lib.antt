@@ -1,0 +1,5 @@
+pub mod NameOrder
+pub mod NameLists
+pub mod KeptEntries
+pub mod NextNames
+pub mod ChangeLaws

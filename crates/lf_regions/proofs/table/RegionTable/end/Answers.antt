@@ -1,0 +1,33 @@
+use Rattle.std.proofs.Common.{◌∙◌, sym}
+use Rattle.lf_regions.proofs.KeptEntries.{absent_name, ended, ended_keeps, found_key, kept_rising}
+use Rattle.lf_regions.proofs.table.RegionTable.end.Goals as goal
+
+pub remove-requires-in-Some : goal.remove-requires-in-Some
+remove-requires-in-Some c = found_key c.self.inside.regions c.self.inside.index.entries c.args.r c.in-Some.key c.self.invariant (sym c.remove.ensures.value ∙ c.in-Some.is)
+
+pub invariant_of-self : goal.invariant_of-self
+invariant_of-self c =
+    rw c.remove.ensures.entries (
+    ended_keeps c.self.inside.regions c.remove-in-Some.new.self c.self.inside.index.entries c.self.invariant c.args.r c.in-Some.key
+    (sym c.remove.ensures.value ∙ c.in-Some.is) c.remove-in-Some.ensures.updates)
+
+pub returns-in-Some-clause-ended : goal.returns-in-Some-clause-ended
+returns-in-Some-clause-ended c =
+    rw (← c.self.view_is, c.remove.ensures.entries) (
+    ended c.self.inside.regions c.remove-in-Some.new.self c.self.inside.index.entries c.self.invariant c.args.r c.in-Some.key
+    (sym c.remove.ensures.value ∙ c.in-Some.is) c.remove-in-Some.ensures.updates)
+
+pub returns-in-Some-clause-rising : goal.returns-in-Some-clause-rising
+returns-in-Some-clause-rising c =
+    rw c.remove.ensures.entries (
+    kept_rising c.remove-in-Some.new.self _
+    (ended_keeps c.self.inside.regions c.remove-in-Some.new.self c.self.inside.index.entries c.self.invariant c.args.r c.in-Some.key
+    (sym c.remove.ensures.value ∙ c.in-Some.is) c.remove-in-Some.ensures.updates))
+
+pub returns-in_default-clause-ended : goal.returns-in_default-clause-ended
+returns-in_default-clause-ended c =
+    absurd (absent_name c.self.inside.regions c.self.inside.index.entries c.self.invariant c.args.self.now c.self.view_is c.args.r c.requires.there (sym c.remove.ensures.value ∙ c.in_default.is))
+
+pub returns-in_default-clause-rising : goal.returns-in_default-clause-rising
+returns-in_default-clause-rising c =
+    absurd (absent_name c.self.inside.regions c.self.inside.index.entries c.self.invariant c.args.self.now c.self.view_is c.args.r c.requires.there (sym c.remove.ensures.value ∙ c.in_default.is))

@@ -1,0 +1,15 @@
+use Rattle.std.proofs.Common.{sym}
+use Rattle.lf_regions.proofs.KeptEntries.{flag_found, found_key, found_name, kept_rising}
+use Rattle.lf_regions.proofs.table.RegionTable.is_owned.Goals as goal
+
+pub index-requires : goal.index-requires
+index-requires c = found_name c.self.inside.regions c.self.inside.index.entries c.self.invariant c.args.self.now c.self.view_is c.args.r c.requires
+
+pub index-requires-2 : goal.index-requires-2
+index-requires-2 c = found_key c.self.inside.regions c.self.inside.index.entries c.args.r c.index.result.now c.self.invariant c.index.ensures
+
+pub returns-clause-flag : goal.returns-clause-flag
+returns-clause-flag c = sym (flag_found c.self.inside.regions c.self.inside.index.entries c.self.invariant c.args.self.now c.self.view_is c.args.r c.index.result.now c.index.ensures c.index-2.result.now c.index-2.ensures)
+
+pub returns-clause-rising : goal.returns-clause-rising
+returns-clause-rising c = rw (← c.self.view_is) (kept_rising c.self.inside.regions c.self.inside.index.entries c.self.invariant)

@@ -1,0 +1,23 @@
+use Rattle.lf_regions.proofs.KeptEntries.{flag_written, found_key, found_name, kept_rising, write_keeps}
+use Rattle.lf_regions.proofs.table.RegionTable.set_owned.Goals as goal
+
+pub index-key-requires : goal.index-key-requires
+index-key-requires c = found_name c.self.inside.regions c.self.inside.index.entries c.self.invariant c.args.self.now c.self.view_is c.args.r c.requires
+
+pub index_mut-requires : goal.index_mut-requires
+index_mut-requires c = found_key c.self.inside.regions c.self.inside.index.entries c.args.r c.index-key.result.now c.self.invariant c.index-key.ensures
+
+pub invariant_of-self : goal.invariant_of-self
+invariant_of-self c =
+    write_keeps c.self.inside.regions c.self.inside.index.entries c.self.invariant c.args.self.now c.self.view_is c.args.r c.index-key.result.now c.index-key.ensures c.index_mut.result.now c.index_mut.ensures.value
+    c.index_mut.result.now.borrowed c.args.owned
+
+pub returns-clause-set : goal.returns-clause-set
+returns-clause-set c =
+    flag_written c.self.inside.regions c.self.inside.index.entries c.self.invariant c.args.self.now c.self.view_is c.args.r c.index-key.result.now c.index-key.ensures c.index_mut.result.now c.index_mut.ensures.value
+    c.args.owned
+
+pub returns-clause-rising : goal.returns-clause-rising
+returns-clause-rising c =
+    kept_rising _ _ (write_keeps c.self.inside.regions c.self.inside.index.entries c.self.invariant c.args.self.now c.self.view_is c.args.r c.index-key.result.now c.index-key.ensures c.index_mut.result.now c.index_mut.ensures.value
+    c.index_mut.result.now.borrowed c.args.owned)

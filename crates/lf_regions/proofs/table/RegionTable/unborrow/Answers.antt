@@ -1,0 +1,28 @@
+use Rattle.std.proofs.Common.{◌-◌, ap, arith, sym}
+use Rattle.lf_regions.proofs.KeptEntries.{found_key, found_name, kept_rising, number_found, number_written, write_keeps}
+use Rattle.lf_regions.proofs.table.RegionTable.unborrow.Goals as goal
+
+pub index-key-requires : goal.index-key-requires
+index-key-requires c = found_name c.self.inside.regions c.self.inside.index.entries c.self.invariant c.args.self.now c.self.view_is c.args.r c.requires.there
+
+pub index_mut-requires : goal.index_mut-requires
+index_mut-requires c = found_key c.self.inside.regions c.self.inside.index.entries c.args.r c.index-key.result.now c.self.invariant c.index-key.ensures
+
+pub overflow_sub-index_mut : goal.overflow_sub-index_mut
+overflow_sub-index_mut c = omega (arith, number_found c.self.inside.regions c.self.inside.index.entries c.self.invariant c.args.self.now c.self.view_is c.args.r c.index-key.result.now c.index-key.ensures c.index_mut.result.now c.index_mut.ensures.value)
+
+pub invariant_of-self : goal.invariant_of-self
+invariant_of-self c =
+    write_keeps c.self.inside.regions c.self.inside.index.entries c.self.invariant c.args.self.now c.self.view_is c.args.r c.index-key.result.now c.index-key.ensures c.index_mut.result.now c.index_mut.ensures.value
+    (c.index_mut.result.now.borrowed - c.args.by) c.index_mut.result.now.owned
+
+pub returns-clause-subtracted : goal.returns-clause-subtracted
+returns-clause-subtracted c =
+    number_written c.self.inside.regions c.self.inside.index.entries c.self.invariant c.args.self.now c.self.view_is c.args.r c.index-key.result.now c.index-key.ensures c.index_mut.result.now c.index_mut.ensures.value
+    (c.index_mut.result.now.borrowed - c.args.by) _
+    (ap (λ n. n - c.args.by) (sym (number_found c.self.inside.regions c.self.inside.index.entries c.self.invariant c.args.self.now c.self.view_is c.args.r c.index-key.result.now c.index-key.ensures c.index_mut.result.now c.index_mut.ensures.value)))
+
+pub returns-clause-rising : goal.returns-clause-rising
+returns-clause-rising c =
+    kept_rising _ _ (write_keeps c.self.inside.regions c.self.inside.index.entries c.self.invariant c.args.self.now c.self.view_is c.args.r c.index-key.result.now c.index-key.ensures c.index_mut.result.now c.index_mut.ensures.value
+    (c.index_mut.result.now.borrowed - c.args.by) c.index_mut.result.now.owned)
