@@ -1,0 +1,4 @@
+pub mod StoredRows
+pub mod RowChanges
+pub mod Room
+pub mod Parts

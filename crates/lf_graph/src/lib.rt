@@ -1,0 +1,10 @@
+//! The rows of a behaviour's objects, under their owners, with fields and edge counts.
+//!
+//! It stands on lf_base. `Store` is the contract between whatever keeps the rows and
+//! all that works on them: each call says what it answers, what it makes of the rows
+//! of every owner, and what it does to the room that was made for later calls.
+#![tactic(auto)]
+
+mod store;
+
+pub use store::{RowHead, Store};
