@@ -105,7 +105,7 @@ reordered_by_owner (x ∷ xs) ys same =
     let s = split (x.row).owner x ys (rows_of (x.row).owner xs) f in
     let g : SameByOwner (x ∷ xs) (s.front ++ (x ∷ s.back)) = λ w. same w ∙ ap (rows_of w) s.whole in
     subst (λ l. Reordered (x ∷ xs) l) (sym s.whole)
-      (then (skip (reordered_by_owner xs (s.front ++ s.back) (less_one x xs s.front s.back s.before g))) (to_middle x s.front s.back))
+    (then (skip (reordered_by_owner xs (s.front ++ s.back) (less_one x xs s.front s.back s.before g))) (to_middle x s.front s.back))
 
 -- ---- names
 or_swap : (a b c : Bool) → (a || (b || c)) ≡ (b || (a || c))
@@ -168,16 +168,16 @@ insert_swap x y [] e =
 insert_swap x y (q ∷ xs) e =
     elim (name_below y.name q.name) as (λ b. name_below y.name q.name ≡ b → insert_row x (cond b (y ∷ (q ∷ xs)) (q ∷ insert_row y xs)) ≡ insert_row y (insert_row x (q ∷ xs))) [
       | true ↦ λ yq. elim (name_below x.name q.name) as (λ a. name_below x.name q.name ≡ a → cond (name_below x.name y.name) (x ∷ (y ∷ (q ∷ xs))) (y ∷ cond a (x ∷ (q ∷ xs)) (q ∷ insert_row x xs)) ≡ insert_row y (cond a (x ∷ (q ∷ xs)) (q ∷ insert_row x xs))) [
-          | true ↦ λ xq. elim (name_below x.name y.name) as (λ a. name_below x.name y.name ≡ a → cond a (x ∷ (y ∷ (q ∷ xs))) (y ∷ (x ∷ (q ∷ xs))) ≡ cond (name_below y.name x.name) (y ∷ (x ∷ (q ∷ xs))) (x ∷ cond (name_below y.name q.name) (y ∷ (q ∷ xs)) (q ∷ insert_row y xs))) [
-              | true ↦ λ h. let g : name_below y.name x.name ≡ false = below_asym x.name y.name h in simp (g, yq)
-              | false ↦ λ h. let g : name_below y.name x.name ≡ true = below_other x.name y.name h e in simp (g, yq)
-            ] refl
-          | false ↦ λ xq. let h : name_below x.name y.name ≡ false = not_below x.name y.name q.name yq xq in simp (h, yq)
+        | true ↦ λ xq. elim (name_below x.name y.name) as (λ a. name_below x.name y.name ≡ a → cond a (x ∷ (y ∷ (q ∷ xs))) (y ∷ (x ∷ (q ∷ xs))) ≡ cond (name_below y.name x.name) (y ∷ (x ∷ (q ∷ xs))) (x ∷ cond (name_below y.name q.name) (y ∷ (q ∷ xs)) (q ∷ insert_row y xs))) [
+          | true ↦ λ h. let g : name_below y.name x.name ≡ false = below_asym x.name y.name h in simp (g, yq)
+          | false ↦ λ h. let g : name_below y.name x.name ≡ true = below_other x.name y.name h e in simp (g, yq)
         ] refl
+        | false ↦ λ xq. let h : name_below x.name y.name ≡ false = not_below x.name y.name q.name yq xq in simp (h, yq)
+      ] refl
       | false ↦ λ yq. elim (name_below x.name q.name) as (λ a. name_below x.name q.name ≡ a → cond a (x ∷ (q ∷ insert_row y xs)) (q ∷ insert_row x (insert_row y xs)) ≡ insert_row y (cond a (x ∷ (q ∷ xs)) (q ∷ insert_row x xs))) [
-          | true ↦ λ xq. let h : name_below y.name x.name ≡ false = not_below y.name x.name q.name xq yq in simp (h, yq)
-          | false ↦ λ xq. ap (λ l. q ∷ l) (insert_swap x y xs e) ∙ sym (ap (λ b. cond b (y ∷ (q ∷ insert_row x xs)) (q ∷ insert_row y (insert_row x xs))) yq)
-        ] refl
+        | true ↦ λ xq. let h : name_below y.name x.name ≡ false = not_below y.name x.name q.name xq yq in simp (h, yq)
+        | false ↦ λ xq. ap (λ l. q ∷ l) (insert_swap x y xs e) ∙ sym (ap (λ b. cond b (y ∷ (q ∷ insert_row x xs)) (q ∷ insert_row y (insert_row x xs))) yq)
+      ] refl
     ] refl
 
 pub in_order_reordered : {xs ys : List CountedRow} → Reordered xs ys → NamesDiffer xs → by_name (plain xs) ≡ by_name (plain ys)
