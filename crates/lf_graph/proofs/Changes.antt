@@ -97,7 +97,7 @@ found_append (x ∷ xs) ys q =
       | false ↦ found_append xs ys q
     ]
 
-name_flips : (a b : ObjId) → same_name a b ≡ same_name b a
+pub name_flips : (a b : ObjId) → same_name a b ≡ same_name b a
 name_flips a b =
     elim (same_name a b) as (λ t. same_name a b ≡ t → t ≡ same_name b a) [
       | true ↦ λ e. sym (ap (same_name b) (same_name_is a b e) ∙ same_name_itself b)

@@ -1,3 +1,4 @@
 pub mod Changes
 pub mod NameOrder
 pub mod Reordered
+pub mod StateRows

@@ -5,7 +5,8 @@ use Rattle.lf_base.specs.declared.values.Key.{Key}
 use Rattle.lf_base.specs.declared.values.Owner.{Owner}
 use Rattle.lf_base.specs.declared.values.Value.{Value}
 use Rattle.lf_base.specs.TakeResult.{drop_field}
-use Rattle.lf_base.specs.WriteResult.{put_field}
+use Rattle.lf_base.specs.PlainState.{Row}
+use Rattle.lf_base.specs.WriteResult.{is_at, put_field}
 use Rattle.lf_graph.specs.StoredRows.{CountedRow, is_named, row_named}
 
 -- a row with other fields
@@ -60,3 +61,7 @@ under w (Some c) = with_owner w c ∷ []
 -- the row of that name comes last under its new owner
 abbrev pub moved_last : List CountedRow → ObjId → Owner → List CountedRow
 moved_last rows o w = without_row rows o ++ under w (row_named rows o)
+
+-- the rows of a state with field k of x taken out
+abbrev pub take_fields : List Row → ObjId → Key → List Row
+take_fields rows x k = map (λ r. cond (is_at x r) (record r { fields = drop_field r.fields k }) r) rows

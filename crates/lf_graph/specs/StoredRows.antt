@@ -1,12 +1,12 @@
 -- The rows of a store, and what is found among them.
-use Rattle.std.specs.Prelude.{List, None, Option, Some, [], cond, filter, is_some, map, ℕ, Bool, not, ◌∷◌, ◌≡◌}
+use Rattle.std.specs.Prelude.{List, None, Option, Some, [], cond, filter, is_some, map, ℕ, Bool, not, true, ◌∷◌, ◌≡◌}
 use Rattle.lf_base.specs.declared.ids.ObjId.{ObjId}
 use Rattle.lf_base.specs.declared.values.Key.{Key}
 use Rattle.lf_base.specs.declared.values.Owner.{Owner}
 use Rattle.lf_base.specs.declared.values.Value.{Value}
+use Rattle.lf_base.specs.FreezeResult.{insert_rows}
 use Rattle.lf_base.specs.Names.{same_name, same_owner}
 use Rattle.lf_base.specs.Owners.{names}
-use Rattle.lf_base.specs.PlainChanges.{insert_row}
 use Rattle.lf_base.specs.PlainState.{Row}
 use Rattle.lf_base.specs.Sets.{Differ}
 use Rattle.lf_base.specs.TakeResult.{field_at}
@@ -51,7 +51,7 @@ row_named (c ∷ cs) o = cond (is_named o c) (Some c) (row_named cs o)
 
 -- there is a row of that name
 abbrev pub HasRow : List CountedRow → ObjId → Type 0
-HasRow rows o = is_some (row_named rows o) ≡ Bool.true
+HasRow rows o = is_some (row_named rows o) ≡ true
 
 -- there is no row of that name
 abbrev pub IsNewName : List CountedRow → ObjId → Type 0
@@ -109,9 +109,9 @@ rows_beside rows o = rows_of_maybe (owner_at rows o) rows
 
 -- the rows by rising name
 abbrev pub by_name : List Row → List Row
-by_name [] = []
-by_name (r ∷ rs) = insert_row r (by_name rs)
+by_name rows = insert_rows rows []
 
--- these are the mutable rows of a state, whose rows stand by rising name
-abbrev pub AreRowsOf : List CountedRow → List Row → Type 0
-AreRowsOf rows state_rows = by_name (plain rows) ≡ state_rows
+-- a store with these rows is that of a state with those rows
+pub record AreRowsOf (rows : List CountedRow) (state_rows : List Row) : Type 0 where
+  pub differ : NamesDiffer rows
+  pub rise : by_name (plain rows) ≡ state_rows

@@ -1,17 +1,22 @@
 //! What callers need of the rows of a store, whatever keeps them. Each function has
 //! an empty body; its clauses are the law.
 
-ghost use Rattle.std.specs.Prelude.{◌≡◌, ◌+◌, ◌-◌, ◌++◌, List, None, Some, ℕ, if◌then◌else◌};
+ghost use Rattle.std.specs.Prelude.{◌≡◌, ◌+◌, ◌-◌, ◌++◌, ◌∷◌, [], List, None, Some, filter, map, not, if◌then◌else◌};
 ghost use Rattle.std.specs.Option.{option_map};
 ghost use Rattle.lf_base.specs.declared.ids.ObjId.{ObjId};
 ghost use Rattle.lf_base.specs.declared.values.Key.{Key};
 ghost use Rattle.lf_base.specs.declared.values.Owner.{Owner};
 ghost use Rattle.lf_base.specs.declared.values.Value.{Value};
-ghost use Rattle.lf_base.specs.Names.{same_name};
+ghost use Rattle.lf_base.specs.FreezeResult.{insert_rows};
+ghost use Rattle.lf_base.specs.Names.{same_name, same_owner};
+ghost use Rattle.lf_base.specs.Owners.{row_at};
+ghost use Rattle.lf_base.specs.PlainChanges.{insert_row};
+ghost use Rattle.lf_base.specs.PlainState.{Row};
 ghost use Rattle.lf_base.specs.TakeResult.{drop_field};
-ghost use Rattle.lf_base.specs.WriteResult.{put_field};
-ghost use Rattle.lf_graph.specs.RowChanges.{lowered, moved_last, new_row, raised, with_field, with_fields, with_owner, with_refs, with_row, without_field, without_row};
-ghost use Rattle.lf_graph.specs.StoredRows.{CountedRow, IsNewName, NamesDiffer, SameByOwner, by_name, plain, row_named, rows_outside};
+ghost use Rattle.lf_base.specs.WriteResult.{put_field, relabel, write_fields};
+ghost use Rattle.lf_graph.specs.Parts.{AllNew};
+ghost use Rattle.lf_graph.specs.RowChanges.{lowered, moved_last, new_row, raised, take_fields, with_field, with_fields, with_owner, with_refs, with_row, without_field, without_row};
+ghost use Rattle.lf_graph.specs.StoredRows.{AreRowsOf, CountedRow, IsNewName, NamesDiffer, SameByOwner, by_name, plain, row_named, rows_of, rows_outside};
 
 /// Where each owner has the same rows, the same are found by name, names differ in
 /// both or in none, and by rising name the rows are the same list.
@@ -43,4 +48,25 @@ pub fn rows_found()
     ensures with_row { (rows : List CountedRow) (o : ObjId) (w : Owner) (q : ObjId) → IsNewName rows o → row_named (with_row rows o w) q ≡ (if same_name q o then Some (new_row o w) else row_named rows q) }
     ensures without_row { (rows : List CountedRow) (o q : ObjId) → row_named (without_row rows o) q ≡ (if same_name q o then None else row_named rows q) }
     ensures moved_last { (rows : List CountedRow) (o : ObjId) (w : Owner) (q : ObjId) → row_named (moved_last rows o w) q ≡ (if same_name q o then option_map (with_owner w) (row_named rows q) else row_named rows q) }
+{}
+
+/// What each call makes of the rows of the state whose store it is.
+pub fn state_rows()
+    ensures with_field { (rows new : List CountedRow) (of : List Row) (o : ObjId) (k : Key) (v : Value) → AreRowsOf rows of → SameByOwner new (with_field rows o k v) → AreRowsOf new (write_fields of o k v) }
+    ensures without_field { (rows new : List CountedRow) (of : List Row) (o : ObjId) (k : Key) → AreRowsOf rows of → SameByOwner new (without_field rows o k) → AreRowsOf new (take_fields of o k) }
+    ensures raised { (rows new : List CountedRow) (of : List Row) (o : ObjId) → AreRowsOf rows of → SameByOwner new (raised rows o) → AreRowsOf new of }
+    ensures lowered { (rows new : List CountedRow) (of : List Row) (o : ObjId) → AreRowsOf rows of → SameByOwner new (lowered rows o) → AreRowsOf new of }
+    ensures unchanged { (rows new : List CountedRow) (of : List Row) → AreRowsOf rows of → SameByOwner new rows → AreRowsOf new of }
+    ensures with_row { (rows new : List CountedRow) (of : List Row) (o : ObjId) (w : Owner) → AreRowsOf rows of → IsNewName rows o → SameByOwner new (with_row rows o w) → AreRowsOf new (insert_row (new_row o w).row of) }
+    ensures without_row { (rows new : List CountedRow) (of : List Row) (o : ObjId) → AreRowsOf rows of → SameByOwner new (without_row rows o) → AreRowsOf new (filter (λ r. not (same_name r.name o)) of) }
+    ensures moved_last { (rows new : List CountedRow) (of : List Row) (o : ObjId) (w : Owner) → AreRowsOf rows of → SameByOwner new (moved_last rows o w) → AreRowsOf new (relabel of (o ∷ []) w) }
+    ensures outside { (rows new : List CountedRow) (of : List Row) (w : Owner) → AreRowsOf rows of → SameByOwner new (rows_outside w rows) → AreRowsOf new (filter (λ r. not (same_owner r.owner w)) of) }
+    ensures with_part { (rows new part : List CountedRow) (of : List Row) → AreRowsOf rows of → NamesDiffer part → AllNew part rows → SameByOwner new (rows ++ part) → AreRowsOf new (insert_rows (plain part) of) }
+{}
+
+/// What is found by name in a store is the state's row, and an owner's rows are those
+/// of the state that have that owner.
+pub fn state_found()
+    ensures found { (rows : List CountedRow) (of : List Row) (o : ObjId) → AreRowsOf rows of → row_at of o ≡ option_map (λ c. c.row) (row_named rows o) }
+    ensures under { (rows : List CountedRow) (of : List Row) (w : Owner) → AreRowsOf rows of → by_name (plain (rows_of w rows)) ≡ filter (λ r. same_owner r.owner w) of }
 {}
