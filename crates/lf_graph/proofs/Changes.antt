@@ -1,18 +1,15 @@
 -- What a change of the rows makes of each owner's rows, of names and of what is found.
-use Rattle.std.proofs.Common.{Bool, List, None, Option, Some, [], ap, cond, false, map, not, refl, subst, sym, true, ◌++◌, ◌||◌, ◌∙◌, ◌∷◌, ◌≡◌}
-use Rattle.std.specs.List.{filter, list_any}
+use Rattle.std.proofs.Common.{Bool, List, None, Option, Some, [], ap, cond, false, map, not, refl, subst, sym, true, ◌++◌, ◌∙◌, ◌∷◌, ◌≡◌}
+use Rattle.std.specs.List.{filter}
 use Rattle.std.specs.Option.{option_map}
-use Rattle.std.proofs.lemmas.List.Elements.{filter-append}
 use Rattle.lf_base.specs.declared.ids.ObjId.{ObjId}
 use Rattle.lf_base.specs.declared.values.Owner.{Owner}
 use Rattle.lf_base.specs.Names.{same_name, same_owner}
-use Rattle.lf_base.specs.Owners.{has_name, names}
-use Rattle.lf_base.specs.PlainState.{Row}
 use Rattle.lf_base.proofs.Names.{same_name_is, same_name_itself}
 use Rattle.lf_graph.specs.RowChanges.{changed, moved_last, new_row, under, with_owner, with_row, without_row}
-use Rattle.lf_graph.specs.StoredRows.{CountedRow, IsNewName, NamesDiffer, SameByOwner, is_named, is_under, plain, row_named, rows_of, rows_outside}
+use Rattle.lf_graph.specs.StoredRows.{CountedRow, IsNewName, SameByOwner, is_named, is_under, row_named, rows_of}
 use Rattle.lf_graph.proofs.NameOrder.{name_turns}
-use Rattle.lf_graph.proofs.Reordered.{neither, rows_append}
+use Rattle.lf_graph.proofs.Reordered.{rows_append}
 
 -- ---- each owner's rows
 -- a change that leaves owners as they are

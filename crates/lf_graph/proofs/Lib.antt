@@ -1,4 +1,6 @@
+pub mod AfterCalls
 pub mod Changes
 pub mod NameOrder
 pub mod Reordered
 pub mod StateRows
+pub mod Walks

@@ -1,5 +1,5 @@
 -- Names in their order, and equal names.
-use Rattle.std.proofs.Common.{Bool, ap, arith, eqb, false, ltb, refl, sym, true, ℕ, ◌&&◌, ◌||◌, ◌∙◌, ◌≡◌}
+use Rattle.std.proofs.Common.{ap, arith, eqb, false, ltb, refl, true, ℕ, ◌&&◌, ◌||◌, ◌∙◌, ◌≡◌}
 use Rattle.std.proofs.lemmas.Bool.Decides.{nat_tests}
 use Rattle.lf_base.specs.declared.ids.ObjId.{ObjId}
 use Rattle.lf_base.specs.Names.{name_below, same_name}

@@ -1,6 +1,6 @@
 -- What a change of a store's rows makes of the state's rows, which stand by rising name.
-use Rattle.std.proofs.Common.{Bool, List, None, Option, Some, [], ap, cond, false, inl, inr, map, not, refl, subst, sym, true, ◌+◌, ◌++◌, ◌-◌, ◌||◌, ◌∙◌, ◌∷◌, ◌≡◌, ◌⊎◌}
-use Rattle.std.specs.List.{filter, list_any}
+use Rattle.std.proofs.Common.{Bool, List, None, Some, [], ap, cond, false, inl, inr, map, not, refl, subst, sym, true, ◌++◌, ◌||◌, ◌∙◌, ◌∷◌, ◌≡◌}
+use Rattle.std.specs.List.{filter}
 use Rattle.std.specs.Option.{is_some, option_map}
 use Rattle.std.proofs.lemmas.List.{append-nil}
 use Rattle.lf_base.specs.declared.ids.ObjId.{ObjId}
@@ -8,13 +8,12 @@ use Rattle.lf_base.specs.declared.values.Key.{Key}
 use Rattle.lf_base.specs.declared.values.Owner.{Owner}
 use Rattle.lf_base.specs.declared.values.Value.{Value}
 use Rattle.lf_base.specs.FreezeResult.{insert_rows}
-use Rattle.lf_base.specs.Names.{name_below, same_name, same_owner}
+use Rattle.lf_base.specs.Names.{name_below, same_name}
 use Rattle.lf_base.specs.Owners.{has_name, has_row, names, row_at}
 use Rattle.lf_base.specs.PlainChanges.{insert_row}
 use Rattle.lf_base.specs.PlainState.{Row}
 use Rattle.lf_base.specs.Sets.{Differ, InOrder, Member}
-use Rattle.lf_base.specs.TakeResult.{drop_field}
-use Rattle.lf_base.specs.WriteResult.{is_at, put_field, relabel, write_fields}
+use Rattle.lf_base.specs.WriteResult.{is_at, relabel}
 use Rattle.lf_base.proofs.Dropped.{sub_filter}
 use Rattle.lf_base.proofs.Members.{Member_map}
 use Rattle.lf_base.proofs.MovedRows.{has_names}
@@ -23,10 +22,10 @@ use Rattle.lf_base.proofs.NewRows.{inserted_order}
 use Rattle.lf_base.proofs.Sets.{Member_of_filter}
 use Rattle.lf_base.proofs.Sublists.{differ_sub, name_below_trans, order_all, order_tail, sub_map}
 use Rattle.lf_graph.specs.Parts.{AllNew}
-use Rattle.lf_graph.specs.RowChanges.{changed, moved_last, new_row, take_fields, under, with_fields, with_owner, with_refs, with_row, without_row}
-use Rattle.lf_graph.specs.StoredRows.{AreRowsOf, CountedRow, HasRow, IsNewName, NamesDiffer, SameByOwner, by_name, is_named, is_under, plain, row_named, rows_of, rows_outside}
+use Rattle.lf_graph.specs.RowChanges.{changed, moved_last, new_row, under, with_fields, with_owner, with_row, without_row}
+use Rattle.lf_graph.specs.StoredRows.{AreRowsOf, CountedRow, IsNewName, NamesDiffer, SameByOwner, by_name, is_named, plain, row_named}
 use Rattle.lf_graph.proofs.Changes.{name_flips}
-use Rattle.lf_graph.proofs.Reordered.{Reordered, as_before, differ_reordered, found_reordered, has_reordered, in_order_reordered, neither, reordered_by_owner, skip, swap, then, to_middle, turned}
+use Rattle.lf_graph.proofs.Reordered.{Reordered, as_before, differ_reordered, in_order_reordered, neither, reordered_by_owner, skip, swap, then, to_middle, turned}
 
 -- ---- inserting rows by name
 or_swap : (a b c : Bool) → (a || (b || c)) ≡ (b || (a || c))
@@ -114,7 +113,7 @@ pub plain_append : (xs ys : List CountedRow) → plain (xs ++ ys) ≡ plain xs +
 plain_append [] ys = refl
 plain_append (x ∷ xs) ys = ap (λ l. x.row ∷ l) (plain_append xs ys)
 
-names_map : (f : CountedRow → CountedRow) → ((c : CountedRow) → ((f c).row).name ≡ (c.row).name) → (rows : List CountedRow) → names (plain (map f rows)) ≡ names (plain rows)
+pub names_map : (f : CountedRow → CountedRow) → ((c : CountedRow) → ((f c).row).name ≡ (c.row).name) → (rows : List CountedRow) → names (plain (map f rows)) ≡ names (plain rows)
 names_map f keeps [] = refl
 names_map f keeps (c ∷ cs) = λ i. keeps c i ∷ names_map f keeps cs i
 
@@ -218,7 +217,7 @@ counts_store rows of o f keeps a =
     (mapped_store rows of a _ (λ r. r) (λ c. elim (is_named o c) as (λ b. (cond b (f c) c).row ≡ c.row) [ true ↦ keeps c | false ↦ refl ]) (λ r. refl))
 
 -- ---- the rows of a part
-has_no_name : (rows : List CountedRow) (o : ObjId) → has_name (names (plain rows)) o ≡ false → IsNewName rows o
+pub has_no_name : (rows : List CountedRow) (o : ObjId) → has_name (names (plain rows)) o ≡ false → IsNewName rows o
 has_no_name [] o h = refl
 has_no_name (c ∷ cs) o h =
     let n = neither (is_named o c) (has_name (names (plain cs)) o) h in

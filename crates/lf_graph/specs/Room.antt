@@ -1,5 +1,5 @@
 -- The room that a store has under each owner, and what its calls need of it.
-use Rattle.std.specs.Prelude.{List, Option, Some, is_some, cond, length, ℕ, ◌+◌, ◌≡◌, ◌≤◌, ◌≢◌}
+use Rattle.std.specs.Prelude.{List, Some, is_some, cond, length, ℕ, ◌+◌, ◌≡◌, ◌≤◌, ◌≢◌}
 use Rattle.lf_base.specs.declared.ids.ObjId.{ObjId}
 use Rattle.lf_base.specs.declared.values.Key.{Key}
 use Rattle.lf_base.specs.declared.values.Owner.{Owner}

@@ -98,6 +98,11 @@ abbrev pub name_after : List CountedRow → ObjId → Option ObjId
 name_after [] o = None
 name_after (c ∷ cs) o = cond (is_named o c) (first_name cs) (name_after cs o)
 
+-- the first name and the one after it, where there is a first one
+abbrev pub two_names : List CountedRow → Option (ObjId × Option ObjId)
+two_names [] = None
+two_names (c ∷ cs) = Some ((c.row).name, first_name cs)
+
 -- the rows of an owner, where there is one
 abbrev pub rows_of_maybe : Option Owner → List CountedRow → List CountedRow
 rows_of_maybe None rows = []

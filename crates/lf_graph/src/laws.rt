@@ -16,7 +16,7 @@ ghost use Rattle.lf_base.specs.TakeResult.{drop_field};
 ghost use Rattle.lf_base.specs.WriteResult.{put_field, relabel, write_fields};
 ghost use Rattle.lf_graph.specs.Parts.{AllNew};
 ghost use Rattle.lf_graph.specs.RowChanges.{lowered, moved_last, new_row, raised, take_fields, with_field, with_fields, with_owner, with_refs, with_row, without_field, without_row};
-ghost use Rattle.lf_graph.specs.StoredRows.{AreRowsOf, CountedRow, IsNewName, NamesDiffer, SameByOwner, by_name, plain, row_named, rows_of, rows_outside};
+ghost use Rattle.lf_graph.specs.StoredRows.{AreRowsOf, CountedRow, HasRow, IsNewName, NamesDiffer, SameByOwner, by_name, first_name, name_after, plain, row_named, rows_beside, rows_of, rows_outside};
 
 /// Where each owner has the same rows, the same are found by name, names differ in
 /// both or in none, and by rising name the rows are the same list.
@@ -69,4 +69,15 @@ pub fn state_rows()
 pub fn state_found()
     ensures found { (rows : List CountedRow) (of : List Row) (o : ObjId) → AreRowsOf rows of → row_at of o ≡ option_map (λ c. c.row) (row_named rows o) }
     ensures under { (rows : List CountedRow) (of : List Row) (w : Owner) → AreRowsOf rows of → by_name (plain (rows_of w rows)) ≡ filter (λ r. same_owner r.owner w) of }
+{}
+
+/// A walk by `first` and `next` goes through an owner's rows in their order, and where
+/// a region's rows went out and came back, each owner has what it had.
+pub fn walks_and_parts()
+    ensures first_is_there { (rows : List CountedRow) (w : Owner) (o : ObjId) → first_name (rows_of w rows) ≡ Some o → HasRow rows o }
+    ensures next { (rows before after : List CountedRow) (w : Owner) (c : CountedRow) → NamesDiffer rows → rows_of w rows ≡ before ++ c ∷ after → name_after (rows_beside rows (c.row).name) (c.row).name ≡ first_name after }
+    ensures part_differs { (rows : List CountedRow) (w : Owner) → NamesDiffer rows → NamesDiffer (rows_of w rows) }
+    ensures part_is_new { (rows rest : List CountedRow) (w : Owner) → NamesDiffer rows → SameByOwner rest (rows_outside w rows) → AllNew (rows_of w rows) rest }
+    ensures none_left { (rows rest : List CountedRow) (w : Owner) → SameByOwner rest (rows_outside w rows) → rows_of w rest ≡ [] }
+    ensures round { (rows : List CountedRow) (w : Owner) → SameByOwner (rows_outside w rows ++ rows_of w rows) rows }
 {}

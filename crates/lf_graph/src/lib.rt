@@ -5,6 +5,7 @@
 //! of every owner, and what it does to the room that was made for later calls.
 #![tactic(auto)]
 
+pub mod callers;
 pub mod laws;
 mod store;
 

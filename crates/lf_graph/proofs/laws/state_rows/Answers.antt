@@ -2,7 +2,7 @@ use Rattle.std.proofs.Common.{not, refl, ◌+◌, ◌-◌}
 use Rattle.lf_base.specs.Names.{same_name, same_owner}
 use Rattle.lf_base.specs.TakeResult.{drop_field}
 use Rattle.lf_base.specs.WriteResult.{put_field}
-use Rattle.lf_graph.specs.RowChanges.{moved_last, with_refs, with_row}
+use Rattle.lf_graph.specs.RowChanges.{with_refs}
 use Rattle.lf_graph.proofs.StateRows.{counts_store, fields_store, filtered_store, inserted_store, moved_store, part_store, same_store}
 use Rattle.lf_graph.proofs.laws.state_rows.Goals as goal
 
