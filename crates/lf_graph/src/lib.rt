@@ -6,6 +6,7 @@
 #![tactic(auto)]
 
 pub mod callers;
+pub mod chains;
 pub mod laws;
 mod store;
 
