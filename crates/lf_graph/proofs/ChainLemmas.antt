@@ -359,3 +359,13 @@ AreChains-same m n e f L h k old w = record {
   last = ap last_of (k w) ∙ (old w).last;
   members = λ q. (old w).members q ∙ ap (λ t. is_of w (option_map (λ (x : Linked). x.owner) t)) (sym (h q));
 }
+
+-- a table without rows
+pub AreChains-empty : (m : ObjId → Option Linked) (e : Owner → Option Ends) → ((o : ObjId) → m o ≡ None) → ((w : Owner) → e w ≡ None) → AreChains m e (λ _. [])
+AreChains-empty m e rows ends w = record {
+  links = tt;
+  differ = tt;
+  first = ap first_of (ends w);
+  last = ap last_of (ends w);
+  members = λ q. ap (λ t. is_of w (option_map (λ (x : Linked). x.owner) t)) (sym (rows q));
+}

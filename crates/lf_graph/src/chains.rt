@@ -1,17 +1,18 @@
 //! The rows of all owners, each linked with the rows before and after it, so that a row
 //! comes last, goes, and is walked past without a look at any other rows.
 
-ghost use Rattle.std.specs.Prelude.{◌≡◌, ◌<◌, ◌≤◌, ◌+◌, List, None, Some, IsSome, if◌then◌else◌};
+ghost use Rattle.std.specs.Prelude.{◌≡◌, ◌<◌, ◌≤◌, ◌+◌, [], List, None, Some, IsSome, OnOk, if◌then◌else◌};
 ghost use Rattle.std.specs.HashMap.{spare};
 ghost use Rattle.std.specs.Option.{option_map};
 ghost use Rattle.lf_base.specs.Names.{same_name};
 ghost use Rattle.lf_base.specs.declared.ids.ObjId.{ObjId};
 ghost use Rattle.lf_base.specs.declared.values.Owner.{Owner};
 ghost use Rattle.lf_graph.specs.ChainMaps.{ends_of, heads_of, region_ends};
-ghost use Rattle.lf_graph.specs.Chains.{AreChains, OnlyEndsOf, OnlyRowAt, RelinksNext, RelinksPrev, after, ends_with, ends_without, left_without, owner_at, pushed};
+ghost use Rattle.lf_graph.specs.Chains.{AreChains, OnlyEndsOf, OnlyRowAt, RelinksNext, RelinksPrev, after, ends_with, ends_without, left_without, owner_at, pushed, refs_at};
 ghost use Rattle.lf_graph.specs.Links.{head_or};
 
-use lf_base::{ObjId, Owner};
+use lf_base::{ObjId, OutOfMemory, Owner};
+use std::alloc::Global;
 use std::collections::HashMap;
 
 /// The nodes before and after a node of a list.
@@ -119,7 +120,37 @@ fn set_region(regions: &mut HashMap<ObjId, Ends>, region: ObjId, ends: Ends)
     }
 }
 
+fn reserve_rows(rows: &mut HashMap<ObjId, Linked>, more: usize) -> Result<(), OutOfMemory>
+    ensures rows { (o : ObjId) → heads_of rows.new o ≡ heads_of rows.old o }
+    ensures enough { OnOk result (more ≤ spare rows.new) }
+    ensures room { spare rows.old ≤ spare rows.new }
+{
+    match rows.reserve(more) {
+        Ok(()) => Ok(()),
+        Err(_error) => Err(OutOfMemory),
+    }
+}
+
+fn reserve_regions(regions: &mut HashMap<ObjId, Ends>, more: usize) -> Result<(), OutOfMemory>
+    ensures ends { (r : ObjId) → region_ends regions.new r ≡ region_ends regions.old r }
+    ensures enough { OnOk result (more ≤ spare regions.new) }
+    ensures room { spare regions.old ≤ spare regions.new }
+{
+    match regions.reserve(more) {
+        Ok(()) => Ok(()),
+        Err(_error) => Err(OutOfMemory),
+    }
+}
+
 impl OwnerEnds {
+    fn reserve(&mut self, more: usize) -> Result<(), OutOfMemory>
+        ensures ends { (w : Owner) → ends_of self.new w ≡ ends_of self.old w }
+        ensures enough { OnOk result (more ≤ spare self.new.regions) }
+        ensures room { spare self.old.regions ≤ spare self.new.regions }
+    {
+        reserve_regions(&mut self.regions, more)
+    }
+
     fn get(&self, owner: Owner) -> Option<Ends>
         ensures { result ≡ ends_of self.now owner }
     {
@@ -209,6 +240,35 @@ impl OwnerEnds {
 }
 
 impl Chains {
+    /// A table without rows. It takes no memory.
+    pub fn new(alloc: Global) -> Chains
+        ensures rows { (o : ObjId) → heads_of result.rows o ≡ None }
+        ensures lists { AreChains (heads_of result.rows) (ends_of result.ends) (λ _. []) }
+    {
+        Chains {
+            rows: HashMap::new(alloc),
+            ends: OwnerEnds {
+                local: None,
+                frozen: None,
+                regions: HashMap::new(alloc),
+            },
+        }
+    }
+
+    /// Makes room for so many more rows. After `OutOfMemory`, which comes where memory
+    /// runs out, the rows are as before.
+    pub fn reserve(&mut self, more: usize) -> Result<(), OutOfMemory>
+        ensures rows { (o : ObjId) → heads_of self.new.rows o ≡ heads_of self.old.rows o }
+        ensures lists { (lists : Owner → List ObjId) → AreChains (heads_of self.old.rows) (ends_of self.old.ends) lists → AreChains (heads_of self.new.rows) (ends_of self.new.ends) lists }
+        ensures rows_enough { OnOk result (more ≤ spare self.new.rows) }
+        ensures ends_enough { OnOk result (more ≤ spare self.new.ends.regions) }
+        ensures rows_room { spare self.old.rows ≤ spare self.new.rows }
+        ensures ends_room { spare self.old.ends.regions ≤ spare self.new.ends.regions }
+    {
+        reserve_rows(&mut self.rows, more)?;
+        self.ends.reserve(more)
+    }
+
     /// What is kept of a row, where there is one of that name.
     pub fn get(&self, o: ObjId) -> Option<Linked>
         ensures { result ≡ heads_of self.now.rows o }
@@ -242,6 +302,8 @@ impl Chains {
         requires rows_room { 0 < spare self.old.rows }
         requires ends_room { 0 < spare self.old.ends.regions }
         ensures lists { (lists : Owner → List ObjId) → AreChains (heads_of self.old.rows) (ends_of self.old.ends) lists → AreChains (heads_of self.new.rows) (ends_of self.new.ends) (pushed lists owner o) }
+        ensures owners { (q : ObjId) → owner_at (heads_of self.new.rows) q ≡ (if same_name o q then Some owner else owner_at (heads_of self.old.rows) q) }
+        ensures counts { (q : ObjId) → refs_at (heads_of self.new.rows) q ≡ (if same_name o q then Some refs else refs_at (heads_of self.old.rows) q) }
         ensures rows_room { spare self.old.rows ≤ spare self.new.rows + 1 }
         ensures ends_room { spare self.old.ends.regions ≤ spare self.new.ends.regions + 1 }
     {
@@ -259,6 +321,8 @@ impl Chains {
     pub fn unlink(&mut self, o: ObjId)
         requires there { IsSome (heads_of self.old.rows o) }
         ensures lists { (lists : Owner → List ObjId) → AreChains (heads_of self.old.rows) (ends_of self.old.ends) lists → AreChains (heads_of self.new.rows) (ends_of self.new.ends) (left_without lists o) }
+        ensures owners { (q : ObjId) → owner_at (heads_of self.new.rows) q ≡ (if same_name o q then None else owner_at (heads_of self.old.rows) q) }
+        ensures counts { (q : ObjId) → refs_at (heads_of self.new.rows) q ≡ (if same_name o q then None else refs_at (heads_of self.old.rows) q) }
         ensures rows_room { spare self.old.rows ≤ spare self.new.rows }
         ensures ends_room { spare self.old.ends.regions ≤ spare self.new.ends.regions }
     {
