@@ -1,8 +1,6 @@
 -- The lists of all owners after a row comes or goes.
-use Rattle.std.proofs.Common.{◌≡◌, ℕ, Bool, true, false, not, cond, ◌||◌, List, [], ◌∷◌, ◌++◌, Option, Some, None, filter, refl, ap, sym, ◌∙◌, subst}
-use Rattle.std.specs.Bool.{Decides}
+use Rattle.std.proofs.Common.{◌≡◌, ℕ, Bool, true, false, not, cond, ◌||◌, List, [], ◌∷◌, ◌++◌, Option, Some, None, refl, ap, sym, ◌∙◌, subst}
 use Rattle.std.specs.Option.{option_map}
-use Rattle.std.proofs.lemmas.Bool.Decides.{Decides-eqb, Decides-and, Decides-like}
 use Rattle.lf_base.specs.declared.ids.ObjId.{ObjId}
 use Rattle.lf_base.specs.declared.values.Owner.{Owner}
 use Rattle.lf_base.specs.declared.values.Owner.TheVariants.{Local, In, Frozen}
@@ -14,7 +12,7 @@ use Rattle.lf_graph.specs.declared.chains.Ends.{Ends}
 use Rattle.lf_graph.specs.Links.{link, head_or, last_or, Spells, to_next, to_prev, Lacks, LacksAt, Differ, relinked, unlinked}
 use Rattle.lf_graph.specs.Chains.{head_at, link_at, owner_at, ends_at, Relinks}
 use Rattle.lf_graph.specs.Chains.{has, is_of, without, after, ends_with, ends_without, IsChain, AreChains}
-use Rattle.lf_graph.proofs.LinkedLists.{Spells-append, Spells-at, Spells-kept, Spells-relinked, Spells-pushed, Spells-unlinked, Differ-without}
+use Rattle.lf_graph.proofs.LinkedLists.{Spells-at, Spells-kept, Spells-relinked, Spells-pushed, Spells-unlinked, Differ-without}
 
 pub owner_is : (v w : Owner) → same_owner v w ≡ true → v ≡ w
 owner_is Local Local e = refl
@@ -369,3 +367,7 @@ AreChains-empty m e rows ends w = record {
   last = ap last_of (ends w);
   members = λ q. ap (λ t. is_of w (option_map (λ (x : Linked). x.owner) t)) (sym (rows q));
 }
+
+pub none_kept : (t : Option Linked) → option_map (λ (x : Linked). x.owner) t ≡ None → t ≡ None
+none_kept None e = refl
+none_kept (Some h) e = cc

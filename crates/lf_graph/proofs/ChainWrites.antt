@@ -1,5 +1,5 @@
 -- A write to the links of one row, and to the ends of one owner.
-use Rattle.std.proofs.Common.{Bool, None, Option, Some, ap, cond, false, refl, subst, sym, true, ℕ, ◌∙◌, ◌≡◌}
+use Rattle.std.proofs.Common.{Bool, Option, Some, ap, cond, false, refl, subst, sym, true, ℕ, ◌∙◌, ◌≡◌}
 use Rattle.std.specs.Option.{IsSome, option_map}
 use Rattle.std.specs.HashMap.{HashMap, WritesThrough}
 use Rattle.lf_base.specs.declared.ids.ObjId.{ObjId}
@@ -9,7 +9,7 @@ use Rattle.lf_base.proofs.Names.{same_name_is}
 use Rattle.lf_graph.specs.declared.chains.Link.{Link}
 use Rattle.lf_graph.specs.declared.chains.Linked.{Linked}
 use Rattle.lf_graph.specs.ChainMaps.{heads_of}
-use Rattle.lf_graph.specs.Chains.{Relinks, head_at, link_at, owner_at, refs_at}
+use Rattle.lf_graph.specs.Chains.{Relinks, link_at, owner_at, refs_at}
 use Rattle.lf_graph.specs.Links.{relinked}
 
 same_either : {X : Type 0} (b : Bool) (x : X) → cond b x x ≡ x

@@ -298,7 +298,7 @@ impl Chains {
 
     /// Puts a new row last under its owner.
     pub fn push_last(&mut self, o: ObjId, owner: Owner, refs: u64)
-        requires new { heads_of self.old.rows o ≡ None }
+        requires new { owner_at (heads_of self.old.rows) o ≡ None }
         requires rows_room { 0 < spare self.old.rows }
         requires ends_room { 0 < spare self.old.ends.regions }
         ensures lists { (lists : Owner → List ObjId) → AreChains (heads_of self.old.rows) (ends_of self.old.ends) lists → AreChains (heads_of self.new.rows) (ends_of self.new.ends) (pushed lists owner o) }
@@ -319,7 +319,7 @@ impl Chains {
 
     /// Takes a row out of its owner's list.
     pub fn unlink(&mut self, o: ObjId)
-        requires there { IsSome (heads_of self.old.rows o) }
+        requires there { IsSome (owner_at (heads_of self.old.rows) o) }
         ensures lists { (lists : Owner → List ObjId) → AreChains (heads_of self.old.rows) (ends_of self.old.ends) lists → AreChains (heads_of self.new.rows) (ends_of self.new.ends) (left_without lists o) }
         ensures owners { (q : ObjId) → owner_at (heads_of self.new.rows) q ≡ (if same_name o q then None else owner_at (heads_of self.old.rows) q) }
         ensures counts { (q : ObjId) → refs_at (heads_of self.new.rows) q ≡ (if same_name o q then None else refs_at (heads_of self.old.rows) q) }
@@ -332,5 +332,28 @@ impl Chains {
         set_next(&mut self.rows, row.link.prev, row.link.next);
         set_prev(&mut self.rows, row.link.next, row.link.prev);
         self.ends.cut(row.owner, row.link.prev, row.link.next);
+    }
+}
+
+#[cfg(test)]
+mod tests {
+    use super::*;
+    use std::test::Fail;
+
+    #[test]
+    fn rows_come_and_go(rt: HostRuntime) -> Result<(), Fail> {
+        let first = ObjId { birth: 1, seq: 1 };
+        let second = ObjId { birth: 1, seq: 2 };
+        let mut chains = Chains::new(rt.alloc());
+        chains.reserve(2)?;
+        chains.push_last(first, Owner::Local, 7);
+        chains.push_last(second, Owner::Local, 0);
+        assert_eq!(rt; chains.first(Owner::Local), Some(first));
+        assert_eq!(rt; chains.next(first), Some(second));
+        assert_eq!(rt; chains.next(second), None);
+        chains.unlink(first);
+        assert_eq!(rt; chains.first(Owner::Local), Some(second));
+        assert_eq!(rt; chains.first(Owner::Frozen), None);
+        Ok(())
     }
 }

@@ -30,7 +30,7 @@ pub struct RowHead {
 /// before, and can't fail.
 pub trait Store: Sized + Drop {
     /// The rows of one region, out of their store.
-    type Part: Drop;
+    type Part: Drop + Send;
 
     /// The rows. Only the order of rows of one owner is told.
     ghost rows: { Self → List CountedRow };
