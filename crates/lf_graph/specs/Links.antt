@@ -4,6 +4,7 @@ use Rattle.std.specs.Option.{option_map}
 use Rattle.lf_graph.specs.declared.chains.Link.{Link}
 
 module _ {N : Type 0} where
+  -- the link of a node between two others
   abbrev pub link : Option N → Option N → Link N
   link p n = record { prev = p; next = n }
 
@@ -22,6 +23,7 @@ module _ {N : Type 0} where
   Spells get before [] after = Unit {0}
   Spells get before (x ∷ xs) after = (get x ≡ Some (link before (head_or xs after))) × Spells get (Some x) xs after
 
+  -- the node after the one of that link
   abbrev pub next_of : Option (Link N) → Option N
   next_of None = None
   next_of (Some l) = l.next
@@ -32,10 +34,11 @@ module _ {N : Type 0} where
   walk (suc n) get None = []
   walk (suc n) get (Some x) = x ∷ walk n get (next_of (get x))
 
-  -- another node after the node, or before it
+  -- another node comes after
   abbrev pub to_next : Option N → Link N → Link N
   to_next n l = record l { next = n }
 
+  -- another node comes before
   abbrev pub to_prev : Option N → Link N → Link N
   to_prev p l = record l { prev = p }
 
@@ -55,10 +58,11 @@ module _ {N : Type 0} where
     relinked get None f q = get q
     relinked get (Some x) f q = cond (same x q) (option_map f (get q)) (get q)
 
+    -- that node, where there is one, is not in the list
     abbrev pub LacksAt : Option N → List N → Type 0
     LacksAt None xs = Unit {0}
     LacksAt (Some x) xs = Lacks x xs
 
-    -- the links without x
+    -- the links after p and n are linked past what stood between them
     abbrev pub unlinked : (N → Option (Link N)) → Option N → Option N → N → Option (Link N)
     unlinked get p n = relinked (relinked get p (to_next n)) n (to_prev p)

@@ -6,8 +6,8 @@
 //! has what follows for the rows of a state, and `callers` shows that each call can
 //! be used by its contract alone.
 //!
-//! `chains` links the rows of each owner in their order. Each of its calls looks at
-//! one row and its neighbours only.
+//! `chains` links the rows of each owner in their order. Each of its calls but
+//! `reserve` looks at one row and its neighbours only.
 #![tactic(auto)]
 
 pub mod callers;
