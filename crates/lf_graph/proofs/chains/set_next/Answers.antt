@@ -1,0 +1,6 @@
+use Rattle.lf_graph.specs.Links.{to_next}
+use Rattle.lf_graph.proofs.ChainWrites.{Relinks-written}
+use Rattle.lf_graph.proofs.chains.set_next.Goals as goal
+
+pub returns-in-Some-get_mut-clause-rows : goal.returns-in-Some-get_mut-clause-rows
+returns-in-Some-get_mut-clause-rows c = Relinks-written c.args.rows.now _ c.args.at c.in-Some.o c.in-Some-get_mut.row.now (to_next c.args.next) c.in-Some.is c.in-Some-get_mut.ensures.value (c.get_mut.follows.holds _)

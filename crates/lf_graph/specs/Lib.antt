@@ -1,0 +1,7 @@
+pub mod StoredRows
+pub mod RowChanges
+pub mod Room
+pub mod Parts
+pub mod Links
+pub mod Chains
+pub mod ChainMaps

@@ -1,0 +1,68 @@
+-- Nodes that know the node before and the node after.
+use Rattle.std.specs.Prelude.{◌≡◌, ℕ, zero, suc, Bool, false, cond, List, [], ◌∷◌, Option, Some, None}
+use Rattle.std.specs.Option.{option_map}
+use Rattle.lf_graph.specs.declared.chains.Link.{Link}
+
+module _ {N : Type 0} where
+  -- the link of a node between two others
+  abbrev pub link : Option N → Option N → Link N
+  link p n = record { prev = p; next = n }
+
+  -- the first of the list, or else what comes after it
+  abbrev pub head_or : List N → Option N → Option N
+  head_or [] after = after
+  head_or (x ∷ xs) after = Some x
+
+  -- the last of the list, or else what comes before it
+  abbrev pub last_or : Option N → List N → Option N
+  last_or before [] = before
+  last_or before (x ∷ xs) = last_or (Some x) xs
+
+  -- the links of xs lead from one to the next and back, between `before` and `after`
+  abbrev pub Spells : (N → Option (Link N)) → Option N → List N → Option N → Type 0
+  Spells get before [] after = Unit {0}
+  Spells get before (x ∷ xs) after = (get x ≡ Some (link before (head_or xs after))) × Spells get (Some x) xs after
+
+  -- the node after the one of that link
+  abbrev pub next_of : Option (Link N) → Option N
+  next_of None = None
+  next_of (Some l) = l.next
+
+  -- at most n nodes from a node on
+  abbrev pub walk : ℕ → (N → Option (Link N)) → Option N → List N
+  walk zero get at = []
+  walk (suc n) get None = []
+  walk (suc n) get (Some x) = x ∷ walk n get (next_of (get x))
+
+  -- another node comes after
+  abbrev pub to_next : Option N → Link N → Link N
+  to_next n l = record l { next = n }
+
+  -- another node comes before
+  abbrev pub to_prev : Option N → Link N → Link N
+  to_prev p l = record l { prev = p }
+
+  module _ (same : N → N → Bool) where
+    -- x is not in the list
+    abbrev pub Lacks : N → List N → Type 0
+    Lacks x [] = Unit {0}
+    Lacks x (y ∷ ys) = (same x y ≡ false) × Lacks x ys
+
+    -- no node comes twice
+    abbrev pub Differ : List N → Type 0
+    Differ [] = Unit {0}
+    Differ (x ∷ xs) = Lacks x xs × Differ xs
+
+    -- the links after f is done to that of the node `at`, if there is one
+    abbrev pub relinked : (N → Option (Link N)) → Option N → (Link N → Link N) → N → Option (Link N)
+    relinked get None f q = get q
+    relinked get (Some x) f q = cond (same x q) (option_map f (get q)) (get q)
+
+    -- that node, where there is one, is not in the list
+    abbrev pub LacksAt : Option N → List N → Type 0
+    LacksAt None xs = Unit {0}
+    LacksAt (Some x) xs = Lacks x xs
+
+    -- the links after p and n are linked past what stood between them
+    abbrev pub unlinked : (N → Option (Link N)) → Option N → Option N → N → Option (Link N)
+    unlinked get p n = relinked (relinked get p (to_next n)) n (to_prev p)
