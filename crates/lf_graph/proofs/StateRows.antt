@@ -18,7 +18,7 @@ use Rattle.lf_base.proofs.Dropped.{sub_filter}
 use Rattle.lf_base.proofs.Members.{Member_map}
 use Rattle.lf_base.proofs.MovedRows.{has_names}
 use Rattle.lf_base.proofs.Names.{same_name_is, same_name_itself}
-use Rattle.lf_base.proofs.NewRows.{inserted_order}
+use Rattle.lf_base.proofs.InsertedRows.{inserted_order}
 use Rattle.lf_base.proofs.Sets.{Member_of_filter}
 use Rattle.lf_base.proofs.Sublists.{differ_sub, name_below_trans, order_all, order_tail, sub_map}
 use Rattle.lf_graph.specs.Parts.{AllNew}
