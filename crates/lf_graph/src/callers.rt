@@ -1,9 +1,10 @@
 //! Callers that know a store by its trait alone. Each is proved for every store.
 
-ghost use Rattle.std.specs.Prelude.{◌≡◌, ◌≢◌, ◌+◌, ◌^◌, ◌-◌, ◌<◌, ◌↔◌, ◌∷◌, [], false, is_some, slice_get, IfOk, IsTrue, OnErr, OnOk};
+ghost use Rattle.std.specs.Prelude.{◌≡◌, ◌≢◌, ◌+◌, ◌^◌, ◌-◌, ◌<◌, ◌↔◌, ◌∷◌, [], false, is_some, option_map, slice_get, IfErr, IfOk, IsTrue, OnErr, OnOk};
 ghost use Rattle.std.specs.Bool.{OnFalse, OnTrue};
 ghost use Rattle.lf_base.specs.declared.values.Owner.TheVariants.{In};
 ghost use Rattle.lf_base.specs.Names.{same_name};
+ghost use Rattle.lf_graph.specs.Parts.{IsLeft};
 ghost use Rattle.lf_graph.specs.Room.{LowersNone, LowersOwnerOf};
 ghost use Rattle.lf_graph.specs.RowChanges.{lowered, moved_last, new_row, raised, with_field, without_field, without_row};
 ghost use Rattle.lf_graph.specs.StoredRows.{HasRow, NamesDiffer, SameByOwner, fields_at, fields_by, first_name, owner_at, refs_at, rows_of, two_names, value_at};
@@ -155,15 +156,23 @@ pub fn give_row<S: Store, L: Ledger>(
 }
 
 /// Takes a region out and puts it back, after which each owner has the rows that it
-/// had.
-pub fn out_and_in<S: Store>(store: &mut S, region: ObjId) -> Result<(), OutOfMemory>
+/// had. After `OutOfMemory` they have them too, but where a part is handed back: it has
+/// the region's rows, and all others stay.
+pub fn out_and_in<S: Store>(
+    store: &mut S,
+    region: ObjId,
+) -> Result<(), (Option<S::Part>, OutOfMemory)>
     requires differ { NamesDiffer (S.rows store.old) }
-    ensures { OnOk result (SameByOwner (S.rows store.new) (S.rows store.old)) }
+    ensures back { OnOk result (SameByOwner (S.rows store.new) (S.rows store.old)) }
+    ensures left { IfErr result (λ refused. IsLeft (option_map (λ part. S.part_rows part) refused.0) (In region) (S.rows store.old) (S.rows store.new)) }
 {
-    let part = store.part_out(region)?;
+    let part = match store.part_out(region) {
+        Ok(part) => part,
+        Err(refused) => return Err((None, refused)),
+    };
     match store.part_in(part) {
         Ok(()) => Ok(()),
-        Err(_refused) => Err(OutOfMemory),
+        Err((part, refused)) => Err((Some(part), refused)),
     }
 }
 
