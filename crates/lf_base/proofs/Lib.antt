@@ -18,6 +18,7 @@ pub mod KeptWhole
 pub mod KeyLemmas
 pub mod Least
 pub mod LeftWhole
+pub mod LinkedLists
 pub mod LocalWrite
 pub mod Lookup
 pub mod Members

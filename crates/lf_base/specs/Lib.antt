@@ -29,3 +29,4 @@ pub mod Suspects
 pub mod Settling
 pub mod Scripts
 pub mod WorkedRows
+pub mod Links

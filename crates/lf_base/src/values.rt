@@ -47,7 +47,7 @@ impl Value {
 }
 
 /// What a field is found by.
-#[derive(Clone, Copy, Debug, PartialEq, Eq)]
+#[derive(Clone, Copy, Debug, Hash, PartialEq, Eq)]
 pub enum Key {
     Text(TextId),
     Int(i64),

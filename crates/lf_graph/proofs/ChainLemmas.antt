@@ -6,13 +6,13 @@ use Rattle.lf_base.specs.declared.values.Owner.{Owner}
 use Rattle.lf_base.specs.declared.values.Owner.TheVariants.{Local, In, Frozen}
 use Rattle.lf_base.specs.Names.{same_name, same_owner}
 use Rattle.lf_base.proofs.Names.{Decides-same_name, same_name_is}
-use Rattle.lf_graph.specs.declared.chains.Link.{Link}
+use Rattle.lf_base.specs.declared.links.Link.{Link}
 use Rattle.lf_graph.specs.declared.chains.Linked.{Linked}
 use Rattle.lf_graph.specs.declared.chains.Ends.{Ends}
-use Rattle.lf_graph.specs.Links.{link, head_or, last_or, Spells, to_next, to_prev, Lacks, LacksAt, Differ, relinked, unlinked}
+use Rattle.lf_base.specs.Links.{link, head_or, last_or, Spells, to_next, to_prev, Lacks, LacksAt, Differ, relinked, unlinked}
 use Rattle.lf_graph.specs.Chains.{head_at, link_at, owner_at, ends_at, Relinks}
 use Rattle.lf_graph.specs.Chains.{has, is_of, without, after, ends_with, ends_without, IsChain, AreChains}
-use Rattle.lf_graph.proofs.LinkedLists.{Spells-at, Spells-kept, Spells-relinked, Spells-pushed, Spells-unlinked, Differ-without}
+use Rattle.lf_base.proofs.LinkedLists.{Spells-at, Spells-kept, Spells-relinked, Spells-pushed, Spells-unlinked, Differ-without}
 
 pub owner_is : (v w : Owner) → same_owner v w ≡ true → v ≡ w
 owner_is Local Local e = refl

@@ -6,11 +6,11 @@ use Rattle.lf_base.specs.declared.ids.ObjId.{ObjId}
 use Rattle.lf_base.specs.declared.values.Owner.{Owner}
 use Rattle.lf_base.specs.Names.{same_name}
 use Rattle.lf_base.proofs.Names.{same_name_is}
-use Rattle.lf_graph.specs.declared.chains.Link.{Link}
+use Rattle.lf_base.specs.declared.links.Link.{Link}
 use Rattle.lf_graph.specs.declared.chains.Linked.{Linked}
 use Rattle.lf_graph.specs.ChainMaps.{heads_of}
 use Rattle.lf_graph.specs.Chains.{Relinks, link_at, owner_at, refs_at}
-use Rattle.lf_graph.specs.Links.{relinked}
+use Rattle.lf_base.specs.Links.{relinked}
 
 same_either : {X : Type 0} (b : Bool) (x : X) → cond b x x ≡ x
 same_either true x = refl

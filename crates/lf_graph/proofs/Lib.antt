@@ -2,7 +2,6 @@ pub mod AfterCalls
 pub mod ChainLemmas
 pub mod ChainWrites
 pub mod Changes
-pub mod LinkedLists
 pub mod NameOrder
 pub mod Reordered
 pub mod StateRows

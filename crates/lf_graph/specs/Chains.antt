@@ -5,9 +5,9 @@ use Rattle.lf_base.specs.declared.ids.ObjId.{ObjId}
 use Rattle.lf_base.specs.declared.values.Owner.{Owner}
 use Rattle.lf_base.specs.Names.{same_name, same_owner}
 use Rattle.lf_graph.specs.declared.chains.Ends.{Ends}
-use Rattle.lf_graph.specs.declared.chains.Link.{Link}
+use Rattle.lf_base.specs.declared.links.Link.{Link}
 use Rattle.lf_graph.specs.declared.chains.Linked.{Linked}
-use Rattle.lf_graph.specs.Links.{Differ, Spells, head_or, last_or, relinked, to_next, to_prev}
+use Rattle.lf_base.specs.Links.{Differ, Spells, head_or, last_or, relinked, to_next, to_prev}
 
 -- what is kept of a row
 abbrev pub head_at : (ObjId → Option Linked) → ObjId → Option Linked

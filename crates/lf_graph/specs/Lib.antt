@@ -2,6 +2,5 @@ pub mod StoredRows
 pub mod RowChanges
 pub mod Room
 pub mod Parts
-pub mod Links
 pub mod Chains
 pub mod ChainMaps

@@ -9,18 +9,11 @@ ghost use Rattle.lf_base.specs.declared.ids.ObjId.{ObjId};
 ghost use Rattle.lf_base.specs.declared.values.Owner.{Owner};
 ghost use Rattle.lf_graph.specs.ChainMaps.{ends_of, heads_of, region_ends};
 ghost use Rattle.lf_graph.specs.Chains.{AreChains, OnlyEndsOf, OnlyRowAt, RelinksNext, RelinksPrev, after, ends_with, ends_without, left_without, owner_at, pushed, refs_at};
-ghost use Rattle.lf_graph.specs.Links.{head_or};
+ghost use Rattle.lf_base.specs.Links.{head_or};
 
-use lf_base::{ObjId, OutOfMemory, Owner};
+use lf_base::{Link, ObjId, OutOfMemory, Owner};
 use std::alloc::Global;
 use std::collections::HashMap;
-
-/// The nodes before and after a node of a list.
-#[derive(Clone, Copy, Debug)]
-pub struct Link<N> {
-    pub prev: Option<N>,
-    pub next: Option<N>,
-}
 
 /// What is kept of a row: its owner, its count of edges, and its neighbours.
 #[derive(Clone, Copy, Debug)]

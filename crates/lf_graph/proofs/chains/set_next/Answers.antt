@@ -1,4 +1,4 @@
-use Rattle.lf_graph.specs.Links.{to_next}
+use Rattle.lf_base.specs.Links.{to_next}
 use Rattle.lf_graph.proofs.ChainWrites.{Relinks-written}
 use Rattle.lf_graph.proofs.chains.set_next.Goals as goal
 

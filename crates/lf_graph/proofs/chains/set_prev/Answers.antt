@@ -1,4 +1,4 @@
-use Rattle.lf_graph.specs.Links.{to_prev}
+use Rattle.lf_base.specs.Links.{to_prev}
 use Rattle.lf_graph.proofs.ChainWrites.{Relinks-written}
 use Rattle.lf_graph.proofs.chains.set_prev.Goals as goal
 

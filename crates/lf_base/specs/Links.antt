@@ -1,7 +1,7 @@
 -- Nodes that know the node before and the node after.
 use Rattle.std.specs.Prelude.{◌≡◌, ℕ, zero, suc, Bool, false, cond, List, [], ◌∷◌, Option, Some, None}
 use Rattle.std.specs.Option.{option_map}
-use Rattle.lf_graph.specs.declared.chains.Link.{Link}
+use Rattle.lf_base.specs.declared.links.Link.{Link}
 
 module _ {N : Type 0} where
   -- the link of a node between two others

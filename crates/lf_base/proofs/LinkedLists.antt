@@ -2,8 +2,8 @@
 use Rattle.std.proofs.Common.{◌≡◌, ℕ, zero, suc, ◌≤◌, Bool, true, false, cond, List, [], ◌∷◌, ◌++◌, length, Option, Some, None, refl, ap, sym, ◌∙◌, arith}
 use Rattle.std.specs.Bool.{Decides}
 use Rattle.std.specs.Option.{option_map}
-use Rattle.lf_graph.specs.declared.chains.Link.{Link}
-use Rattle.lf_graph.specs.Links.{link, head_or, last_or, Spells, next_of, walk, to_next, to_prev, Lacks, LacksAt, Differ, relinked, unlinked}
+use Rattle.lf_base.specs.declared.links.Link.{Link}
+use Rattle.lf_base.specs.Links.{link, head_or, last_or, Spells, next_of, walk, to_next, to_prev, Lacks, LacksAt, Differ, relinked, unlinked}
 
 module _ {N : Type 0} where
   pub Spells-append : (get : N → Option (Link N)) (b : Option N) (xs ys : List N) (a : Option N)
