@@ -1,9 +1,23 @@
 -- Lists that links spell.
-use Rattle.std.proofs.Common.{◌≡◌, ℕ, zero, suc, ◌≤◌, Bool, true, false, cond, List, [], ◌∷◌, ◌++◌, length, Option, Some, None, refl, ap, sym, ◌∙◌, arith}
+use Rattle.std.proofs.Common.{◌≡◌, ℕ, zero, suc, ◌+◌, ◌≤◌, Bool, true, false, not, ◌||◌, cond, List, [], ◌∷◌, ◌++◌, length, Option, Some, None, refl, ap, sym, ◌∙◌, arith, subst}
 use Rattle.std.specs.Bool.{Decides}
+use Rattle.std.specs.List.{slice_get}
 use Rattle.std.specs.Option.{option_map}
 use Rattle.lf_base.specs.declared.links.Link.{Link}
-use Rattle.lf_base.specs.Links.{link, head_or, last_or, Spells, next_of, walk, to_next, to_prev, Lacks, LacksAt, Differ, relinked, unlinked}
+use Rattle.lf_base.specs.Links.{link, head_or, last_or, Spells, next_of, next_from, walk, to_next, to_prev, Lacks, LacksAt, Differ, relinked, unlinked}
+use Rattle.lf_base.specs.Links.{has, without, after, IsList, front_with, or_else, front_without, back_without}
+
+or_false : (b : Bool) → (b || false) ≡ b
+or_false true = refl
+or_false false = refl
+
+or_true : (b : Bool) → (b || true) ≡ true
+or_true true = refl
+or_true false = refl
+
+or_none : (a b : Bool) → (a || b) ≡ false → (a ≡ false) × (b ≡ false)
+or_none true b e = cc
+or_none false b e = (refl, e)
 
 module _ {N : Type 0} where
   pub Spells-append : (get : N → Option (Link N)) (b : Option N) (xs ys : List N) (a : Option N)
@@ -29,6 +43,52 @@ module _ {N : Type 0} where
   walk-Spells (suc n) get b [] h l = refl
   walk-Spells (suc n) get b (x ∷ xs) h l = ap (λ t. x ∷ walk n get (next_of t)) h.0 ∙ ap (λ t. x ∷ t) (walk-Spells n get (Some x) xs h.1 (omega arith))
 
+  pub Spells-same : (get new : N → Option (Link N)) (b : Option N) (xs : List N) (a : Option N) → ((q : N) → new q ≡ get q) → Spells get b xs a → Spells new b xs a
+  Spells-same get new b [] a k s = tt
+  Spells-same get new b (x ∷ xs) a k s = (k x ∙ s.0, Spells-same get new (Some x) xs a k s.1)
+
+  pub first_is : (xs : List N) → slice_get xs 0 ≡ head_or xs None
+  first_is [] = refl
+  first_is (x ∷ xs) = refl
+
+  -- the node at the next place is the one after that at this place
+  pub Spells-step : (get : N → Option (Link N)) (b : Option N) (xs : List N) (i : ℕ) → Spells get b xs None → slice_get xs (suc i) ≡ next_from get (slice_get xs i)
+  Spells-step get b [] i h = refl
+  Spells-step get b (x ∷ xs) zero h = first_is xs ∙ sym (ap next_of h.0)
+  Spells-step get b (x ∷ xs) (suc i) h = Spells-step get (Some x) xs i h.1
+
+  last_some : (x : N) (xs : List N) → (z : N) × (last_or (Some x) xs ≡ Some z)
+  last_some x [] = (x, refl)
+  last_some x (y ∷ ys) = last_some y ys
+
+  last_or_append : (c : Option N) (xs : List N) (y : N) (ys : List N) → last_or c (xs ++ y ∷ ys) ≡ last_or (Some y) ys
+  last_or_append c [] y ys = refl
+  last_or_append c (x ∷ xs) y ys = last_or_append (Some x) xs y ys
+
+  last_or_nil : (c : Option N) (xs : List N) → last_or c (xs ++ []) ≡ last_or c xs
+  last_or_nil c [] = refl
+  last_or_nil c (x ∷ xs) = last_or_nil (Some x) xs
+
+  front_pushed : (xs : List N) (x : N) → front_with x (head_or xs None) ≡ head_or (xs ++ x ∷ []) None
+  front_pushed [] x = refl
+  front_pushed (y ∷ xs) x = refl
+
+  front_cut : (xs ys : List N) (x : N) → or_else (last_or None xs) (head_or (xs ++ x ∷ ys) None) (head_or ys None) ≡ head_or (xs ++ ys) None
+  front_cut [] ys x = refl
+  front_cut (y ∷ xs) ys x = ap (λ t. or_else t (Some y) (head_or ys None)) (last_some y xs).1
+
+  back_cut : (xs ys : List N) (x : N) → or_else (head_or ys None) (last_or None (xs ++ x ∷ ys)) (last_or None xs) ≡ last_or None (xs ++ ys)
+  back_cut xs [] x = sym (last_or_nil None xs)
+  back_cut xs (y ∷ ys) x = last_or_append None xs x (y ∷ ys) ∙ sym (last_or_append None xs y ys)
+
+  length_middle : (xs ys : List N) (x : N) → length (xs ++ x ∷ ys) ≡ suc (length (xs ++ ys))
+  length_middle [] ys x = refl
+  length_middle (y ∷ xs) ys x = ap suc (length_middle xs ys x)
+
+  pub length_push : (xs : List N) (x : N) → length (xs ++ x ∷ []) ≡ suc (length xs)
+  length_push [] x = refl
+  length_push (y ∷ xs) x = ap suc (length_push xs x)
+
   module _ (same : N → N → Bool) (decides : (a b : N) → Decides (same a b) (a ≡ b)) where
     -- links that agree on a list spell it alike
     pub Spells-kept : (get new : N → Option (Link N)) (b : Option N) (xs : List N) (a : Option N) (x : N) → Lacks same x xs
@@ -42,7 +102,7 @@ module _ {N : Type 0} where
     relinked_other : (get : N → Option (Link N)) (x : N) (f : Link N → Link N) (q : N) → same x q ≡ false → relinked same get (Some x) f q ≡ get q
     relinked_other get x f q e = ap (λ b. cond b (option_map f (get q)) (get q)) e
 
-    flipped : (x y : N) → same x y ≡ false → same y x ≡ false
+    pub flipped : (x y : N) → same x y ≡ false → same y x ≡ false
     flipped x y e = elim (same y x) as (λ b. same y x ≡ b → b ≡ false) [
       | true ↦ λ h. let k : same x y ≡ true = (decides x y).1 (sym ((decides y x).0 h)) in cc (k, e)
       | false ↦ λ h. refl
@@ -131,3 +191,192 @@ module _ {N : Type 0} where
         Spells-append new None xs (x ∷ []) None
         (Spells-kept (relinked same get (last_or None xs) (to_next (Some x))) new None xs (Some x) x l k (Spells-to_next get None None xs None (Some x) d h))
         (e, tt)
+
+    itself : (x : N) → same x x ≡ true
+    itself x = (decides x x).1 refl
+
+    pub Lacks-from_has : (x : N) (xs : List N) → has same x xs ≡ false → Lacks same x xs
+    Lacks-from_has x [] e = tt
+    Lacks-from_has x (y ∷ ys) e = let p = or_none (same x y) (has same x ys) e in (p.0, Lacks-from_has x ys p.1)
+
+    pub has-from_Lacks : (x : N) (xs : List N) → Lacks same x xs → has same x xs ≡ false
+    has-from_Lacks x [] l = refl
+    has-from_Lacks x (y ∷ ys) l = ap (λ b. b || has same x ys) l.0 ∙ has-from_Lacks x ys l.1
+
+    pub has-append : (q : N) (xs ys : List N) → has same q (xs ++ ys) ≡ (has same q xs || has same q ys)
+    has-append q [] ys = refl
+    has-append q (x ∷ xs) ys = elim (same q x) as (λ b. (b || has same q (xs ++ ys)) ≡ ((b || has same q xs) || has same q ys)) [
+      | true ↦ refl
+      | false ↦ has-append q xs ys
+    ]
+
+    lacks_push : (x : N) (xs : List N) (y : N) → Lacks same x xs → same x y ≡ false → Lacks same x (xs ++ y ∷ [])
+    lacks_push x [] y l e = (e, tt)
+    lacks_push x (z ∷ zs) y l e = (l.0, lacks_push x zs y l.1 e)
+
+    Differ-push : (xs : List N) (y : N) → Differ same xs → Lacks same y xs → Differ same (xs ++ y ∷ [])
+    Differ-push [] y d l = (tt, tt)
+    Differ-push (x ∷ xs) y d l = (lacks_push x xs y d.0 (flipped y x l.0), Differ-push xs y d.1 l.1)
+
+    pub without-lacking : (x : N) (xs : List N) → Lacks same x xs → without same x xs ≡ xs
+    without-lacking x [] l = refl
+    without-lacking x (y ∷ ys) l = ap (λ b. cond (not b) (y ∷ without same x ys) (without same x ys)) l.0 ∙ ap (λ t. y ∷ t) (without-lacking x ys l.1)
+
+    without-middle : (x : N) (xs ys : List N) → Differ same (xs ++ x ∷ ys) → without same x (xs ++ x ∷ ys) ≡ xs ++ ys
+    without-middle x [] ys d = ap (λ b. cond (not b) (x ∷ without same x ys) (without same x ys)) (itself x) ∙ without-lacking x ys d.0
+    without-middle x (y ∷ xs) ys d =
+        ap (λ b. cond (not b) (y ∷ without same x (xs ++ x ∷ ys)) (without same x (xs ++ x ∷ ys))) (flipped y x (Lacks-right y xs (x ∷ ys) d.0).0) ∙ ap (λ t. y ∷ t) (without-middle x xs ys d.1)
+
+    middle_lacks : (x : N) (xs ys : List N) → Differ same (xs ++ x ∷ ys) → Lacks same x (xs ++ ys)
+    middle_lacks x [] ys d = d.0
+    middle_lacks x (y ∷ xs) ys d = (flipped y x (Lacks-right y xs (x ∷ ys) d.0).0, middle_lacks x xs ys d.1)
+
+    record Split (x : N) (xs : List N) : Type 0 where
+      front : List N
+      back : List N
+      is : xs ≡ front ++ x ∷ back
+
+    split : (x : N) (xs : List N) → has same x xs ≡ true → Split x xs
+    split x [] h = cc
+    split x (y ∷ ys) h = elim (same x y) as (λ b. same x y ≡ b → (b || has same x ys) ≡ true → Split x (y ∷ ys)) [
+      | true ↦ λ t _. record { front = []; back = ys; is = ap (λ z. z ∷ ys) (sym ((decides x y).0 t)) }
+      | false ↦ λ _ k. let s = split x ys k in record { front = y ∷ s.front; back = s.back; is = ap (λ t. y ∷ t) s.is }
+    ] refl h
+
+    -- without members there is no node
+    pub IsList-nil : (get : N → Option (Link N)) (member : N → Bool) → ((q : N) → member q ≡ false) → IsList same get None None member []
+    IsList-nil get member none = record { links = tt; differ = tt; first = refl; last = refl; members = λ q. sym (none q) }
+
+    -- a list stays where its links and members do
+    pub IsList-same : (get new : N → Option (Link N)) (front back : Option N) (member now : N → Bool) (xs : List N) → ((q : N) → new q ≡ get q) → ((q : N) → now q ≡ member q)
+        → IsList same get front back member xs → IsList same new front back now xs
+    IsList-same get new front back member now xs links members old = record {
+      links = Spells-same get new None xs None links old.links;
+      differ = old.differ;
+      first = old.first;
+      last = old.last;
+      members = λ q. old.members q ∙ sym (members q);
+    }
+
+    -- a node that isn't there is put last
+    pub IsList-pushed : (get new : N → Option (Link N)) (front back : Option N) (member now : N → Bool) (xs : List N) (x : N) → member x ≡ false
+        → new x ≡ Some (link back None) → ((q : N) → same x q ≡ false → new q ≡ relinked same get back (to_next (Some x)) q) → ((q : N) → now q ≡ cond (same x q) true (member q))
+        → IsList same get front back member xs → IsList same new (front_with x front) (Some x) now (xs ++ x ∷ [])
+    IsList-pushed get new front back member now xs x fresh here there members old =
+        let absent : Lacks same x xs = Lacks-from_has x xs (old.members x ∙ fresh) in
+        record {
+          links = Spells-pushed get new xs x old.differ absent old.links (here ∙ ap (λ t. Some (link t None)) old.last) (λ q n. there q n ∙ ap (λ t. relinked same get t (to_next (Some x)) q) old.last);
+          differ = Differ-push xs x old.differ absent;
+          first = ap (front_with x) old.first ∙ front_pushed xs x;
+          last = sym (last_or_append None xs x []);
+          members = λ q. has-append q xs (x ∷ []) ∙ (elim (same x q) as (λ b. same x q ≡ b → (has same q xs || (same q x || false)) ≡ cond b true (member q)) [
+            | true ↦ λ t. ap (λ b. has same q xs || (b || false)) (ap (λ u. same u x) (sym ((decides x q).0 t)) ∙ itself x) ∙ or_true (has same q xs)
+            | false ↦ λ n. ap (λ b. has same q xs || (b || false)) (flipped x q n) ∙ or_false (has same q xs) ∙ old.members q
+          ] refl) ∙ sym (members q);
+        }
+
+    -- a node between two parts of the list goes
+    cut_at : (get new : N → Option (Link N)) (front back : Option N) (member now : N → Bool) (xs ys : List N) (x : N) (l : Link N) → get x ≡ Some l
+        → ((q : N) → same x q ≡ false → new q ≡ unlinked same get l.prev l.next q) → ((q : N) → now q ≡ cond (same x q) false (member q))
+        → IsList same get front back member (xs ++ x ∷ ys) → IsList same new (front_without l front) (back_without l back) now (xs ++ ys)
+    cut_at get new front back member now xs ys x l is there members old =
+        let e : Some l ≡ Some (link (last_or None xs) (head_or ys None)) = sym is ∙ Spells-at get xs ys x old.links in
+        let before : l.prev ≡ last_or None xs = cc in
+        let beyond : l.next ≡ head_or ys None = cc in
+        let lacks = middle_lacks x xs ys old.differ in
+        record {
+          links = Spells-kept (unlinked same get (last_or None xs) (head_or ys None)) new None (xs ++ ys) None x lacks
+              (λ q n. there q n ∙ (λ i. unlinked same get (before i) (beyond i) q)) (Spells-unlinked get xs ys x old.differ old.links);
+          differ = Differ-without xs ys x old.differ;
+          first = (λ i. or_else (before i) (old.first i) (beyond i)) ∙ front_cut xs ys x;
+          last = (λ i. or_else (beyond i) (old.last i) (before i)) ∙ back_cut xs ys x;
+          members = λ q. (elim (same x q) as (λ b. same x q ≡ b → has same q (xs ++ ys) ≡ cond b false (member q)) [
+            | true ↦ λ t. ap (λ u. has same u (xs ++ ys)) (sym ((decides x q).0 t)) ∙ has-from_Lacks x (xs ++ ys) lacks
+            | false ↦ λ n. has-append q xs ys ∙ ap (λ b. has same q xs || (b || has same q ys)) (sym (flipped x q n)) ∙ sym (has-append q xs (x ∷ ys)) ∙ old.members q
+          ] refl) ∙ sym (members q);
+        }
+
+    -- a node of the list goes
+    pub IsList-unlinked : (get new : N → Option (Link N)) (front back : Option N) (member now : N → Bool) (xs : List N) (x : N) (l : Link N) → member x ≡ true → get x ≡ Some l
+        → ((q : N) → same x q ≡ false → new q ≡ unlinked same get l.prev l.next q) → ((q : N) → now q ≡ cond (same x q) false (member q))
+        → IsList same get front back member xs → IsList same new (front_without l front) (back_without l back) now (without same x xs)
+    IsList-unlinked get new front back member now xs x l there is links members old =
+        let s = split x xs (old.members x ∙ there) in
+        let was : IsList same get front back member (s.front ++ x ∷ s.back) = subst (IsList same get front back member) s.is old in
+        subst (IsList same new (front_without l front) (back_without l back) now) (sym (ap (without same x) s.is ∙ without-middle x s.front s.back was.differ))
+        (cut_at get new front back member now s.front s.back x l is links members was)
+
+    Spells-after : (get : N → Option (Link N)) (b : Option N) (xs : List N) (x : N) (l : Link N) → Spells get b xs None → has same x xs ≡ true → get x ≡ Some l → l.next ≡ after same x xs
+    Spells-after get b [] x l s h g = cc
+    Spells-after get b (y ∷ ys) x l s h g = elim (same x y) as (λ t. same x y ≡ t → (t || has same x ys) ≡ true → l.next ≡ cond t (head_or ys None) (after same x ys)) [
+      | true ↦ λ t _. let k : Some l ≡ Some (link b (head_or ys None)) = sym g ∙ ap get ((decides x y).0 t) ∙ s.0 in cc
+      | false ↦ λ _ k. Spells-after get (Some y) ys x l s.1 k g
+    ] refl h
+
+    -- what comes after a node of the list
+    pub IsList-after : (get : N → Option (Link N)) (front back : Option N) (member : N → Bool) (xs : List N) (x : N) (l : Link N) → member x ≡ true → get x ≡ Some l
+        → IsList same get front back member xs → l.next ≡ after same x xs
+    IsList-after get front back member xs x l there is old = Spells-after get None xs x l old.links (old.members x ∙ there) is
+
+    after-lacking : (x : N) (xs : List N) → Lacks same x xs → after same x xs ≡ None
+    after-lacking x [] l = refl
+    after-lacking x (y ∷ ys) l = ap (λ b. cond b (head_or ys None) (after same x ys)) l.0 ∙ after-lacking x ys l.1
+
+    -- nothing comes after a node that isn't there
+    pub IsList-after_none : (get : N → Option (Link N)) (front back : Option N) (member : N → Bool) (xs : List N) (x : N) → member x ≡ false → IsList same get front back member xs → after same x xs ≡ None
+    IsList-after_none get front back member xs x gone old = after-lacking x xs (Lacks-from_has x xs (old.members x ∙ gone))
+
+    -- a walk from the first node is the list
+    pub IsList-walk : (get : N → Option (Link N)) (front back : Option N) (member : N → Bool) (xs : List N) (n : ℕ) → length xs ≤ n → IsList same get front back member xs → walk n get front ≡ xs
+    IsList-walk get front back member xs n few old = ap (walk n get) old.first ∙ walk-Spells n get None xs old.links few
+
+    -- the node at the next place
+    pub IsList-step : (get : N → Option (Link N)) (front back : Option N) (member : N → Bool) (xs : List N) (i : ℕ) → IsList same get front back member xs → slice_get xs (i + 1) ≡ next_from get (slice_get xs i)
+    IsList-step get front back member xs i old =
+        let e : i + 1 ≡ suc i = omega arith in
+        ap (slice_get xs) e ∙ Spells-step get None xs i old.links
+
+    -- a node of the list is one fewer without it
+    pub length-without : (x : N) (xs : List N) → Differ same xs → has same x xs ≡ true → length xs ≡ suc (length (without same x xs))
+    length-without x xs d h =
+        let s = split x xs h in
+        let e : without same x xs ≡ s.front ++ s.back = ap (without same x) s.is ∙ without-middle x s.front s.back (subst (Differ same) s.is d) in
+        ap length s.is ∙ length_middle s.front s.back x ∙ sym (ap (λ t. suc (length t)) e)
+
+    -- the node at a place is in the list
+    pub has-at : (xs : List N) (i : ℕ) (x : N) → slice_get xs i ≡ Some x → has same x xs ≡ true
+    has-at [] i x e = cc
+    has-at (y ∷ ys) zero x e =
+        let p : y ≡ x = cc in
+        ap (λ u. same x u || has same x ys) p ∙ ap (λ b. b || has same x ys) (itself x)
+    has-at (y ∷ ys) (suc i) x e = ap (λ b. same x y || b) (has-at ys i x e) ∙ or_true (same x y)
+
+    -- links that agree at a node agree there after a change
+    pub relinked-agree : (get new : N → Option (Link N)) (at : Option N) (f : Link N → Link N) (q : N) → get q ≡ new q → relinked same get at f q ≡ relinked same new at f q
+    relinked-agree get new None f q h = h
+    relinked-agree get new (Some x) f q h = ap (λ t. cond (same x q) (option_map f t) t) h
+
+    -- what is left of a list from a node on, where all before it are gone
+    pub record IsRest (get : N → Option (Link N)) (front : Option N) (member : N → Bool) (xs : List N) : Type 0 where
+      pub before : Option N
+      pub links : Spells get before xs None
+      pub differ : Differ same xs
+      pub first : front ≡ head_or xs None
+      pub members : (q : N) → has same q xs ≡ member q
+
+    pub IsRest-whole : (get : N → Option (Link N)) (front back : Option N) (member : N → Bool) (xs : List N) → IsList same get front back member xs → IsRest get front member xs
+    IsRest-whole get front back member xs old = record { before = None; links = old.links; differ = old.differ; first = old.first; members = old.members }
+
+    -- the first node of the rest goes
+    pub IsRest-dropped : (get new : N → Option (Link N)) (front : Option N) (member now : N → Bool) (x : N) (xs : List N) → ((q : N) → same x q ≡ false → new q ≡ get q)
+        → ((q : N) → now q ≡ cond (same x q) false (member q)) → IsRest get front member (x ∷ xs) → IsRest new (next_from get front) now xs
+    IsRest-dropped get new front member now x xs links members old = record {
+      before = Some x;
+      links = Spells-kept get new (Some x) xs None x old.differ.0 links old.links.1;
+      differ = old.differ.1;
+      first = ap (next_from get) old.first ∙ ap next_of old.links.0;
+      members = λ q. (elim (same x q) as (λ b. same x q ≡ b → has same q xs ≡ cond b false (member q)) [
+        | true ↦ λ t. ap (λ u. has same u xs) (sym ((decides x q).0 t)) ∙ has-from_Lacks x xs old.differ.0
+        | false ↦ λ n. ap (λ b. b || has same q xs) (sym (flipped x q n)) ∙ old.members q
+      ] refl) ∙ sym (members q);
+    }

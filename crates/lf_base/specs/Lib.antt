@@ -1,3 +1,4 @@
+pub mod formers
 pub mod RefusalKinds
 pub mod Lines
 pub mod Texts

@@ -1,5 +1,5 @@
 -- Nodes that know the node before and the node after.
-use Rattle.std.specs.Prelude.{◌≡◌, ℕ, zero, suc, Bool, false, cond, List, [], ◌∷◌, Option, Some, None}
+use Rattle.std.specs.Prelude.{◌≡◌, ℕ, zero, suc, Bool, false, not, ◌||◌, cond, filter, List, [], ◌∷◌, Option, Some, None}
 use Rattle.std.specs.Option.{option_map}
 use Rattle.lf_base.specs.declared.links.Link.{Link}
 
@@ -27,6 +27,11 @@ module _ {N : Type 0} where
   abbrev pub next_of : Option (Link N) → Option N
   next_of None = None
   next_of (Some l) = l.next
+
+  -- the node after one, where there is one
+  abbrev pub next_from : (N → Option (Link N)) → Option N → Option N
+  next_from get None = None
+  next_from get (Some x) = next_of (get x)
 
   -- at most n nodes from a node on
   abbrev pub walk : ℕ → (N → Option (Link N)) → Option N → List N
@@ -66,3 +71,44 @@ module _ {N : Type 0} where
     -- the links after p and n are linked past what stood between them
     abbrev pub unlinked : (N → Option (Link N)) → Option N → Option N → N → Option (Link N)
     unlinked get p n = relinked (relinked get p (to_next n)) n (to_prev p)
+
+    -- x stands in the list
+    abbrev pub has : N → List N → Bool
+    has x [] = false
+    has x (y ∷ ys) = same x y || has x ys
+
+    -- the list without x
+    abbrev pub without : N → List N → List N
+    without x xs = filter (λ y. not (same x y)) xs
+
+    -- the node after x in the list
+    abbrev pub after : N → List N → Option N
+    after x [] = None
+    after x (y ∷ ys) = cond (same x y) (head_or ys None) (after x ys)
+
+    -- xs is the whole list of a table of links: the links spell it, none of it comes twice, it begins and ends
+    -- with these nodes, and its nodes are the members
+    pub record IsList (get : N → Option (Link N)) (front back : Option N) (member : N → Bool) (xs : List N) : Type 0 where
+      pub links : Spells get None xs None
+      pub differ : Differ xs
+      pub first : front ≡ head_or xs None
+      pub last : back ≡ last_or None xs
+      pub members : (q : N) → has q xs ≡ member q
+
+  -- the first node of a list with x put last, where `front` was the first
+  abbrev pub front_with : N → Option N → Option N
+  front_with x None = Some x
+  front_with x (Some y) = Some y
+
+  -- the end of a list: it stays where there is a node beyond the one that goes, and else is its other neighbour
+  abbrev pub or_else : Option N → Option N → Option N → Option N
+  or_else None end other = other
+  or_else (Some x) end other = end
+
+  -- the first node, where that of this link goes
+  abbrev pub front_without : Link N → Option N → Option N
+  front_without l front = or_else l.prev front l.next
+
+  -- the last node, where that of this link goes
+  abbrev pub back_without : Link N → Option N → Option N
+  back_without l back = or_else l.next back l.prev
