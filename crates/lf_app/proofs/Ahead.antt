@@ -7,10 +7,10 @@ use Rattle.std.specs.List.{AllZip, position_or_len}
 use Rattle.lf_base.specs.Lines.{lines}
 use Rattle.lf_base.specs.Texts.{Text}
 use Rattle.lf_lexer.specs.declared.tokens.Token.{Token}
-use Rattle.lf_lexer.specs.Pieces as form
-use Rattle.lf_lexer.specs.Pieces.{Form, Piece, LineSpells}
-use Rattle.lf_lexer.specs.Reading.{Spells}
-use Rattle.lf_lexer.specs.Tokens.{lexeme_of, new_line, tokens_behind, line_tokens, tokens_from}
+use Rattle.lf_lexer.specs.FirstForm.Pieces as form
+use Rattle.lf_lexer.specs.FirstForm.Pieces.{Form, Piece, LineSpells}
+use Rattle.lf_lexer.specs.FirstForm.Reading.{Spells}
+use Rattle.lf_lexer.specs.FirstForm.Tokens.{lexeme_of, new_line, tokens_behind, line_tokens, tokens_from}
 use Rattle.lf_app.specs.declared.walk.Walk.{Walk}
 use Rattle.lf_app.specs.FirstForm.{State, start, after_line, go_on, Stops, verdict, verdict_from}
 use Rattle.lf_app.specs.Standing.{Has, id_of, Represents, IsFresh, EndsAt}

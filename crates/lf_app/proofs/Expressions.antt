@@ -6,8 +6,8 @@ use Rattle.std.specs.Str.Parse.{digits_value}
 use Rattle.lf_base.specs.Texts.{Text}
 use Rattle.lf_lexer.specs.declared.tokens.Mark.{Mark}
 use Rattle.lf_lexer.specs.declared.tokens.Mark.TheVariants.{CloseParen, Dot, Plus}
-use Rattle.lf_lexer.specs.Pieces as pieces
-use Rattle.lf_lexer.specs.Pieces.{Longest}
+use Rattle.lf_lexer.specs.FirstForm.Pieces as pieces
+use Rattle.lf_lexer.specs.FirstForm.Pieces.{Longest}
 use Rattle.lf_app.specs.Line.{and_then, or_else, unspaced, sign, name, the_name, number, value_of, added, sum, field, expression}
 use Rattle.lf_app.proofs.Shapes.{Shape, Shows, Clear, FirstShape, front_shape, next, shows_spaced}
 use Rattle.lf_app.proofs.Readings.{word_of}

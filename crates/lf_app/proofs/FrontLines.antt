@@ -5,9 +5,9 @@ use Rattle.std.proofs.lemmas.List.{take_at}
 use Rattle.std.specs.List.{AllZip}
 use Rattle.lf_base.specs.declared.refusals.Refusal.{Refusal}
 use Rattle.lf_base.specs.Lines.{lines, with_byte}
-use Rattle.lf_lexer.specs.Pieces.{LineSpells}
-use Rattle.lf_lexer.specs.Reading.{IsFirstRefusal}
-use Rattle.lf_lexer.proofs.SpelledOnce.{spelled_among}
+use Rattle.lf_lexer.specs.FirstForm.Pieces.{LineSpells}
+use Rattle.lf_lexer.specs.FirstForm.Reading.{IsFirstRefusal}
+use Rattle.lf_lexer.proofs.FirstForm.SpelledOnce.{spelled_among}
 use Rattle.lf_app.specs.FirstForm.{State, start, after_line, Runs, Stops, verdict, verdict_from}
 use Rattle.lf_app.specs.Outcomes.{IsRefusedAt}
 use Rattle.lf_app.proofs.Spelled.{unspelled_fails}

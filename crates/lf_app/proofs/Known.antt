@@ -7,10 +7,10 @@ use Rattle.std.specs.Str.{bytes_eq}
 use Rattle.lf_base.specs.declared.ids.TextId.{TextId}
 use Rattle.lf_base.specs.Texts.{Text, fixed_texts}
 use Rattle.lf_base.proofs.TextLemmas.{place_of_same, list_any-seen, list_any-base, place_of-base, bytes_eq_self}
-use Rattle.lf_lexer.specs.Pieces as pieces
-use Rattle.lf_lexer.specs.Pieces.{Form, Piece}
+use Rattle.lf_lexer.specs.FirstForm.Pieces as pieces
+use Rattle.lf_lexer.specs.FirstForm.Pieces.{Form, Piece}
 use Rattle.lf_app.specs.Standing.{Has, id_of}
-use Rattle.lf_lexer.specs.Tokens.{texts_of, texts_of_form, texts_of_pieces}
+use Rattle.lf_lexer.specs.FirstForm.Tokens.{texts_of, texts_of_form, texts_of_pieces}
 
 pub same_id : (texts : List Text) (s t : Text) → Has texts s → Has texts t → id_of texts s ≡ id_of texts t → s ≡ t
 same_id texts s t has_s has_t e = place_of_same texts s t has_s has_t (ap (λ (id : TextId). id.index) e)

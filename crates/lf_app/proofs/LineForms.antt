@@ -4,7 +4,7 @@ use Rattle.std.proofs.lemmas.Bool.{eqb-true}
 use Rattle.lf_base.specs.Texts.{Text}
 use Rattle.lf_lexer.specs.declared.tokens.Mark.TheVariants.{OpenParen, CloseParen, OpenBrace, CloseBrace, Dot, Assign}
 use Rattle.lf_lexer.specs.Bytes.{Stops, is_digit, is_name_byte}
-use Rattle.lf_lexer.specs.Pieces as pieces
+use Rattle.lf_lexer.specs.FirstForm.Pieces as pieces
 use Rattle.lf_app.specs.Line.{and_then, ends_with, unspaced, sign, name, the_name, expression, made_object, stored_field, printed_value}
 use Rattle.lf_app.proofs.Shapes.{Shape, Shows, Clear, front_shape, ended, differs, unspaced_clear}
 use Rattle.lf_app.proofs.Readings.{IsNameWord, IsNumberWord, word_of}

@@ -6,8 +6,8 @@ use Rattle.std.specs.Str.Parse.{digits_value}
 use Rattle.lf_lexer.specs.declared.tokens.Mark.{Mark}
 use Rattle.lf_lexer.specs.declared.tokens.Mark.TheVariants.{OpenParen, CloseParen, OpenBrace, CloseBrace, Dot, Assign, Plus}
 use Rattle.lf_lexer.specs.Bytes.{Stops, Passes, is_letter, is_digit, is_name_byte}
-use Rattle.lf_lexer.specs.Pieces as pieces
-use Rattle.lf_lexer.specs.Pieces.{Form, Longest}
+use Rattle.lf_lexer.specs.FirstForm.Pieces as pieces
+use Rattle.lf_lexer.specs.FirstForm.Pieces.{Form, Longest}
 use Rattle.lf_app.specs.Line.{front_of, behind_front, unspaced, sign, is_name, name, number}
 
 -- the byte of a sign

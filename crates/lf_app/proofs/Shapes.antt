@@ -2,8 +2,8 @@
 use Rattle.std.proofs.Common.{◌≡◌, ◌∙◌, ◌+◌, ◌==◌, ℕ, Bool, true, false, List, [], ◌∷◌, ◌++◌, map, length, sym, ap, subst, refl, true≢false}
 use Rattle.std.proofs.lemmas.Bool.{eqb-true}
 use Rattle.lf_lexer.specs.Bytes.{Stops, is_letter, is_digit}
-use Rattle.lf_lexer.specs.Pieces as pieces
-use Rattle.lf_lexer.specs.Pieces.{Form, Piece, Longest, RestSpells}
+use Rattle.lf_lexer.specs.FirstForm.Pieces as pieces
+use Rattle.lf_lexer.specs.FirstForm.Pieces.{Form, Piece, Longest, RestSpells}
 use Rattle.lf_app.specs.Line.{unspaced}
 
 pub record Shape : Type 0 where

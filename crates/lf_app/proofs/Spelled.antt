@@ -1,10 +1,10 @@
 -- A line and its pieces: what it says where pieces spell it, and that it says nothing where none do.
 use Rattle.std.proofs.Common.{◌≡◌, ◌∙◌, ◌≤◌, ◌+◌, ℕ, List, [], ◌∷◌, Option, Some, None, codes, sym, ap, subst, refl, arith, true≢false}
 use Rattle.lf_base.specs.Texts.{Text}
-use Rattle.lf_lexer.specs.Pieces as pieces
-use Rattle.lf_lexer.specs.Pieces.{Piece, RestSpells, LineSpells, StartsAtFront}
-use Rattle.lf_lexer.specs.Reading.{NotSpelled}
-use Rattle.lf_lexer.proofs.SpelledOnce.{line_spelled_once}
+use Rattle.lf_lexer.specs.FirstForm.Pieces as pieces
+use Rattle.lf_lexer.specs.FirstForm.Pieces.{Piece, RestSpells, LineSpells, StartsAtFront}
+use Rattle.lf_lexer.specs.FirstForm.Reading.{NotSpelled}
+use Rattle.lf_lexer.proofs.FirstForm.SpelledOnce.{line_spelled_once}
 use Rattle.lf_app.specs.Line.{and_then, ends_with, unspaced, sign, name, the_name, expression, made_object, stored_field, printed_value}
 use Rattle.lf_app.specs.FirstForm.{State, after_said, after_bytes, after_line}
 use Rattle.lf_app.proofs.Shapes.{Shape, shapes, Shows, shows, spelled_from, Clear, ended, longest_clear, shows_spaced, unspaced_clear, front_shape, shows_unspaced}

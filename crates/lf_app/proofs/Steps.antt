@@ -8,8 +8,8 @@ use Rattle.std.specs.Str.Parse.{digits_value, AllDigits}
 use Rattle.lf_base.specs.Texts.{Text}
 use Rattle.lf_lexer.specs.declared.tokens.Mark.{Mark}
 use Rattle.lf_lexer.specs.Bytes.{Stops, Passes, is_letter, is_digit, is_name_byte, is_word}
-use Rattle.lf_lexer.specs.Pieces as pieces
-use Rattle.lf_lexer.specs.Pieces.{Form, Longest}
+use Rattle.lf_lexer.specs.FirstForm.Pieces as pieces
+use Rattle.lf_lexer.specs.FirstForm.Pieces.{Form, Longest}
 use Rattle.lf_app.specs.Line.{and_then, or_else, front_of, behind_front, unspaced, sign, is_name, name, number}
 use Rattle.lf_app.proofs.Shapes.{Shape, Shows, Clear, FirstShape, unspaced_clear, shows_unspaced}
 use Rattle.lf_app.proofs.Readings.{code_of, word_of, name_reads, number_reads, number_fails, sign_reads}

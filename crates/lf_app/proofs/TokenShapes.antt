@@ -7,9 +7,9 @@ use Rattle.lf_lexer.specs.declared.tokens.Lexeme.TheVariants as lexeme
 use Rattle.lf_lexer.specs.declared.tokens.Mark.{Mark}
 use Rattle.lf_lexer.specs.declared.tokens.Mark.TheVariants.{OpenParen, CloseParen, OpenBrace, CloseBrace, Dot, Assign, Plus}
 use Rattle.lf_lexer.specs.declared.tokens.Token.{Token}
-use Rattle.lf_lexer.specs.Pieces as pieces
-use Rattle.lf_lexer.specs.Pieces.{Form, Piece}
-use Rattle.lf_lexer.specs.Tokens.{lexeme_of, token_of}
+use Rattle.lf_lexer.specs.FirstForm.Pieces as pieces
+use Rattle.lf_lexer.specs.FirstForm.Pieces.{Form, Piece}
+use Rattle.lf_lexer.specs.FirstForm.Tokens.{lexeme_of, token_of}
 use Rattle.lf_app.specs.Line.{value_of}
 use Rattle.lf_app.specs.Standing.{Has, id_of, Sees}
 use Rattle.lf_app.specs.TokenForms.{IsMark, IsName, IsNumber, HasValue, MakesObject, StoresField, PrintsValue}

@@ -7,8 +7,8 @@ use Rattle.std.specs.Str.{bytes_eq}
 use Rattle.lf_base.specs.declared.ids.TextId.{TextId}
 use Rattle.lf_base.specs.Texts.{Text}
 use Rattle.lf_lexer.specs.declared.tokens.Mark.TheVariants.{Dot, OpenParen}
-use Rattle.lf_lexer.specs.Pieces as form
-use Rattle.lf_lexer.specs.Pieces.{Form, Piece, LineSpells}
+use Rattle.lf_lexer.specs.FirstForm.Pieces as form
+use Rattle.lf_lexer.specs.FirstForm.Pieces.{Form, Piece, LineSpells}
 use Rattle.lf_app.specs.declared.walk.Walk.{Walk}
 use Rattle.lf_app.specs.Fields.{same_text, value_at}
 use Rattle.lf_app.specs.FirstForm.{State, after_said, after_line, with_object, with_field, with_printed}
@@ -22,7 +22,7 @@ use Rattle.lf_app.proofs.LineForms.{MadeShape, StoredShape, PrintedShape, made_o
 use Rattle.lf_app.proofs.Known.{same_id, Knows}
 use Rattle.lf_app.proofs.TokenShapes.{token, made_shape, shape_made, stored_shape, shape_stored, printed_shape, shape_printed}
 use Rattle.lf_app.proofs.Spelled.{line_clear, piece_says, never, made_pieces, stored_pieces, printed_pieces}
-use Rattle.lf_lexer.proofs.SpelledOnce.{line_spelled_once}
+use Rattle.lf_lexer.proofs.FirstForm.SpelledOnce.{line_spelled_once}
 
 -- the walk over the bytes goes on, and the walk in code with it
 pub record Follows (texts : List Text) (walk : Walk) (after : Option State) : Type 0 where

@@ -2,7 +2,7 @@
 use Rattle.std.specs.Prelude.{◌≡◌, ◌⊎◌, ℕ, List, string_bytes}
 use Rattle.std.specs.Io.KnownBytes.{Appends}
 use Rattle.lf_base.specs.declared.refusals.Refusal.{Refusal}
-use Rattle.lf_lexer.specs.Reading.{IsFirstRefusal}
+use Rattle.lf_lexer.specs.FirstForm.Reading.{IsFirstRefusal}
 use Rattle.lf_outside.specs.Causes.{Rose}
 use Rattle.lf_outside.specs.Streams.{Stream}
 use Rattle.lf_outside.specs.Transfer.{AppendsFront}

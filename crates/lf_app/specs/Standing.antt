@@ -5,7 +5,7 @@ use Rattle.std.specs.Str.{bytes_eq}
 use Rattle.lf_base.specs.declared.ids.TextId.{TextId}
 use Rattle.lf_base.specs.Texts.{Text, place_of}
 use Rattle.lf_lexer.specs.declared.tokens.Token.{Token}
-use Rattle.lf_lexer.specs.Reading.{Spells}
+use Rattle.lf_lexer.specs.FirstForm.Reading.{Spells}
 use Rattle.lf_app.specs.declared.walk.Walk.{Walk}
 use Rattle.lf_app.specs.Fields.{value_at}
 use Rattle.lf_app.specs.FirstForm.{State, start, Verdict, Runs, Stops, verdict}

@@ -2,7 +2,7 @@
 
 ghost use Rattle.std.specs.Prelude.{◌≡◌, ◌≤◌, ◌<◌, ◌-◌, IfErr, IfOk, length, position, take};
 ghost use Rattle.lf_base.specs.Lines.{lines};
-ghost use Rattle.lf_lexer.specs.Reading.{FailsAs};
+ghost use Rattle.lf_lexer.specs.FirstForm.Reading.{FailsAs};
 ghost use Rattle.lf_app.specs.FirstForm.{Stops, verdict};
 ghost use Rattle.lf_app.specs.Outcomes.{IsOutcomeOf, IsRefusedAt};
 ghost use Rattle.lf_app.specs.Standing.{EndsAt, IsFresh, WalksTokens};
@@ -11,7 +11,7 @@ ghost use Rattle.lf_app.specs.Walks.{is_new_line as ends_a_line};
 use crate::outcomes::{Outcome, refused_outcome, run_outcome};
 use crate::walk::Walk;
 use lf_base::{MOST_SCRIPT_BYTES, OutOfMemory, ReadFail};
-use lf_lexer::{Lexeme, Token, lex};
+use lf_lexer::{Lexeme, Token, lex_first_form};
 use std::alloc::Global;
 
 fn is_new_line(token: &Token) -> bool
@@ -49,7 +49,7 @@ fn walk_script(alloc: Global, bytes: &[u8]) -> Result<(Walk, Option<u32>), ReadF
     ensures walked { IfOk result (λ r. EndsAt (verdict bytes.now) r.0 r.1) }
     ensures refused { IfErr result (FailsAs bytes.now) }
 {
-    let lexed = lex(alloc, bytes)?;
+    let lexed = lex_first_form(alloc, bytes)?;
     let mut walk = Walk::new(alloc)?;
     let stop = walk_lines(&mut walk, lexed.tokens.as_slice())?;
     Ok((walk, stop))

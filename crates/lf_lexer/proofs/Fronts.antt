@@ -1,88 +1,196 @@
--- What stands at the front of a line's rest, as a function and as the longest token.
-use Rattle.std.proofs.Common.{◌≡◌, ◌∙◌, ℕ, suc, ◌+◌, ◌<◌, ◌≤◌, ◌^◌, Bool, true, false, cond, List, [], ◌∷◌, ◌++◌, length, take, drop, refl, sym, ap, subst, arith, pos, one-add}
-use Rattle.std.specs.Prelude.{◌==◌, nat_lt, if◌then◌else◌}
+-- What stands at the front of a line's rest, as a function and by the definitions of tokens and refusals.
+use Rattle.std.proofs.Common.{◌≡◌, ◌∙◌, ℕ, suc, ◌+◌, ◌-◌, ◌<◌, ◌≤◌, ◌^◌, ◌⊎◌, inl, inr, Bool, true, false, List, [], ◌∷◌, ◌++◌, length, take, drop, refl, sym, ap, subst, arith, pos, append-nil, append_assoc, length-append, not, Option, Some, None}
+use Rattle.std.specs.Prelude.{◌==◌, ◌||◌, nat_lt, if◌then◌else◌}
 use Rattle.std.specs.List.{prefix_len}
 use Rattle.std.specs.Str.Parse.{digits_value}
-use Rattle.std.proofs.lemmas.Bool.{lt-ltb, ltb-true}
+use Rattle.std.proofs.lemmas.Bool.{lt-ltb, ltb-true, le-ltb, ltb-false}
 use Rattle.std.proofs.lemmas.Bool.Decides.{nat_tests, Decides-eqb}
-use Rattle.std.proofs.Math.Seq.{take-append_seam}
+use Rattle.std.proofs.Math.Seq.{take-append_seam, drop-append_seam}
+use Rattle.std.proofs.lemmas.List.{take-append-drop, length-take-le}
 use Rattle.std.proofs.lemmas.List.Sums.{prefix_len-le-length}
-use Rattle.lf_lexer.specs.declared.tokens.Mark.TheVariants.{Assign}
+use Rattle.lf_base.specs.Texts.{Text}
+use Rattle.lf_base.specs.declared.refusals.RefusalKind.{RefusalKind}
+use Rattle.lf_base.specs.declared.refusals.RefusalKind.TheVariants.{BadByte, WideNumber}
+use Rattle.lf_lexer.specs.declared.tokens.Mark.{Mark}
+use Rattle.lf_lexer.specs.declared.texts.TextEnd.{TextEnd}
+use Rattle.lf_lexer.specs.declared.texts.TextEnd.TheVariants.{Closed, Open, Bad}
 use Rattle.lf_lexer.specs.declared.front.Front.{Front}
-use Rattle.lf_lexer.specs.declared.front.Front.TheVariants.{End, Space, Name, Number, Sign, Bad}
-use Rattle.lf_lexer.specs.Bytes.{is_digit, is_letter, is_name_byte, is_word, Passes, Stops}
-use Rattle.lf_lexer.specs.Pieces.{Form, name, number, sign, Longest}
+use Rattle.lf_lexer.specs.declared.front.Front.TheVariants as f
+use Rattle.lf_lexer.specs.Bytes.{is_digit, is_letter, is_name_byte, is_text_byte, Passes, Stops}
+use Rattle.lf_lexer.specs.Marks.{word_of, short_sign, long_sign}
+use Rattle.lf_lexer.specs.Meaning.{meaning}
+use Rattle.lf_lexer.specs.Pieces.{Form, name, number, text_of, mark_of, TextBytes, NoLongSign, Longest}
 use Rattle.lf_lexer.specs.Pieces as p
-use Rattle.lf_lexer.specs.Front.{front, name_front, number_front, name_front_at, number_front_at, assign_front, sign_front}
+use Rattle.lf_lexer.specs.Front.{front, word_front, name_front, name_front_at, number_front, number_front_at, text_end, text_front, text_front_at, short_front, long_front, sign_front}
+use Rattle.lf_lexer.specs.Refusals.{FrontRefused, begins_with_sign}
+use Rattle.lf_lexer.specs.Refusals as r
+use Rattle.lf_lexer.proofs.Prefixes.{prefix, passes_prefix, stops_prefix, prefix_more}
+use Rattle.lf_lexer.proofs.TextBytes.{third_test, text_end_behind, TextStands, ClosedText, text_stands}
 
--- how many bytes pass
-prefix : (test : ℕ → Bool) (bytes rest : List ℕ) → Passes test bytes → Stops test rest → prefix_len test (bytes ++ rest) ≡ length bytes
-prefix test [] [] passes stops = refl
-prefix test [] (byte ∷ rest) passes stops = ap (λ b. cond b (1 + prefix_len test rest) 0) stops
-prefix test (byte ∷ bytes) rest passes stops =
-    ap (λ b. cond b (1 + prefix_len test (bytes ++ rest)) 0) passes.0 ∙ (let e = prefix test bytes rest passes.1 stops in omega arith)
+-- a kind of byte is none of the kinds that are asked for before it
+record NoOther (byte : ℕ) : Type 0 where
+  no_space : (byte == 32) ≡ false
+  no_hash : (byte == 35) ≡ false
 
-letter_not : (byte : ℕ) → is_letter byte ≡ true → (byte == 32) ≡ false
-letter_not byte h = grind (arith, nat_tests)
+letter_not : (byte : ℕ) → is_letter byte ≡ true → NoOther byte
+letter_not byte h = record { no_space = grind (arith, nat_tests); no_hash = grind (arith, nat_tests) }
 
-digit_not : (byte : ℕ) → is_digit byte ≡ true → ((byte == 32) ≡ false) × (is_letter byte ≡ false)
-digit_not byte h = (grind (arith, nat_tests), grind (arith, nat_tests))
+digit_not : (byte : ℕ) → is_digit byte ≡ true → NoOther byte
+digit_not byte h = record { no_space = grind (arith, nat_tests); no_hash = grind (arith, nat_tests) }
+
+digit_no_letter : (byte : ℕ) → is_digit byte ≡ true → is_letter byte ≡ false
+digit_no_letter byte h = grind (arith, nat_tests)
 
 letter_goes_on : (byte : ℕ) → is_letter byte ≡ true → is_name_byte byte ≡ true
 letter_goes_on byte h = grind (arith, nat_tests)
 
--- what the function says of a longest token
-abbrev pub token_front : Form → List ℕ → Front
-token_front name word = Name (length word)
-token_front number word = Number (pos (digits_value 10 word)) (length word)
-token_front (sign mark) word = Sign mark
-
-name_is : (word rest : List ℕ) → is_word word ≡ false → name_front_at (word ++ rest) (length word) ≡ Name (length word)
-unfolding name_front_at
-name_is word rest h = ap (λ w. if is_word w then Bad else Name (length word)) (take-append_seam word rest) ∙ ap (λ b. if b then Bad else Name (length word)) h
-
-number_is : (word rest : List ℕ) → digits_value 10 word < 2 ^ 63 → number_front_at (word ++ rest) (length word) ≡ Number (pos (digits_value 10 word)) (length word)
-unfolding number_front_at
-number_is word rest h =
-    ap (λ w. if nat_lt (digits_value 10 w) (2 ^ 63) then Number (pos (digits_value 10 w)) (length word) else Bad) (take-append_seam word rest)
-    ∙ ap (λ b. if b then Number (pos (digits_value 10 word)) (length word) else Bad) (lt-ltb (digits_value 10 word) (2 ^ 63) h)
-
 -- the kinds of front by their first byte
 at_letter : (byte : ℕ) (rest : List ℕ) → is_letter byte ≡ true → front (byte ∷ rest) ≡ name_front (byte ∷ rest)
 unfolding front
-at_letter byte rest letter =
-    let N = name_front (byte ∷ rest) in
-    let M = if is_digit byte then number_front (byte ∷ rest) else sign_front byte rest in
-    ap (λ b. if b then Space else if is_letter byte then N else M) (letter_not byte letter) ∙ ap (λ b. if b then N else M) letter
+at_letter byte rest letter = let n = letter_not byte letter in rw (n.no_space, n.no_hash, letter) refl
 
 at_digit : (byte : ℕ) (rest : List ℕ) → is_digit byte ≡ true → front (byte ∷ rest) ≡ number_front (byte ∷ rest)
 unfolding front
-at_digit byte rest digit =
-    let n = digit_not byte digit in
-    let N = number_front (byte ∷ rest) in
-    let M = sign_front byte rest in
-    ap (λ b. if b then Space else if is_letter byte then name_front (byte ∷ rest) else if is_digit byte then N else M) n.0
-    ∙ ap (λ b. if b then name_front (byte ∷ rest) else if is_digit byte then N else M) n.1
-    ∙ ap (λ b. if b then N else M) digit
+at_digit byte rest digit = let n = digit_not byte digit in rw (n.no_space, n.no_hash, digit_no_letter byte digit, digit) refl
 
-pub longest_front : (word rest : List ℕ) (form : Form) → Longest word rest form → front (word ++ rest) ≡ token_front form word
-unfolding front sign_front
-longest_front _ rest _ (p.a_name {byte = byte} {bytes = bytes} letter passes stops no_word) =
+at_quote : (rest : List ℕ) → front (34 ∷ rest) ≡ text_front rest
+unfolding front
+at_quote rest = refl
+
+-- what the tests say of a byte with which a sign may begin
+record NoneOf (a b c d e : Bool) : Type 0 where
+  first : a ≡ false
+  second : b ≡ false
+  third : c ≡ false
+  fourth : d ≡ false
+  fifth : e ≡ false
+
+none_of : (a b c d e : Bool) → not (a || b || c || d || e) ≡ true → NoneOf a b c d e
+none_of true b c d e h = cc
+none_of false true c d e h = cc
+none_of false false true d e h = cc
+none_of false false false true e h = cc
+none_of false false false false true h = cc
+none_of false false false false false h = record { first = refl; second = refl; third = refl; fourth = refl; fifth = refl }
+
+at_sign : (byte : ℕ) (rest : List ℕ) → begins_with_sign byte ≡ true → front (byte ∷ rest) ≡ sign_front byte rest
+unfolding front
+at_sign byte rest h =
+    let n = none_of (byte == 32) (byte == 35) (is_letter byte) (is_digit byte) (byte == 34) h in
+    rw (n.first, n.second, n.third, n.fourth, n.fifth) refl
+
+-- what the function says of a longest token
+abbrev pub token_front : Form → List ℕ → Front
+token_front name word = f.Name (length word)
+token_front number word = f.Number (pos (digits_value 10 word)) (length word)
+token_front (text_of text) word = f.Text (length word - 2)
+token_front (mark_of mark) word = f.Sign mark (length word)
+token_front _ word = f.End
+
+word_is : (word rest : List ℕ) (w : Option Mark) → word_of word ≡ w → name_front_at (word ++ rest) (length word) ≡ word_front (length word) w
+unfolding name_front_at
+word_is word rest w h = ap (λ (bytes : List ℕ). word_front (length word) (word_of bytes)) (take-append_seam word rest) ∙ ap (word_front (length word)) h
+
+letter_front : (byte : ℕ) (bytes rest : List ℕ) (w : Option Mark) → is_letter byte ≡ true → Passes is_name_byte bytes → Stops is_name_byte rest → word_of (byte ∷ bytes) ≡ w
+    → front (byte ∷ (bytes ++ rest)) ≡ word_front (length (byte ∷ bytes)) w
+letter_front byte bytes rest w letter passes stops is =
     at_letter byte (bytes ++ rest) letter
     ∙ ap (name_front_at (byte ∷ (bytes ++ rest))) (prefix is_name_byte (byte ∷ bytes) rest (letter_goes_on byte letter, passes) stops)
-    ∙ name_is (byte ∷ bytes) rest no_word
-longest_front _ rest _ (p.a_number {byte = byte} {bytes = bytes} digit passes stops small) =
+    ∙ word_is (byte ∷ bytes) rest w is
+
+digit_front : (byte : ℕ) (bytes rest : List ℕ) (b : Bool) → is_digit byte ≡ true → Passes is_digit bytes → Stops is_digit rest → nat_lt (digits_value 10 (byte ∷ bytes)) (2 ^ 63) ≡ b
+    → front (byte ∷ (bytes ++ rest)) ≡ (if b then f.Number (pos (digits_value 10 (byte ∷ bytes))) (length (byte ∷ bytes)) else f.Refused WideNumber 0)
+unfolding number_front_at
+digit_front byte bytes rest b digit passes stops is =
+    let word = byte ∷ bytes in
     at_digit byte (bytes ++ rest) digit
     ∙ ap (number_front_at (byte ∷ (bytes ++ rest))) (prefix is_digit (byte ∷ bytes) rest (digit, passes) stops)
-    ∙ number_is (byte ∷ bytes) rest small
-longest_front _ rest _ p.open_paren = refl
-longest_front _ rest _ p.close_paren = refl
-longest_front _ rest _ p.open_brace = refl
-longest_front _ rest _ p.close_brace = refl
-longest_front _ rest _ p.dot = refl
-longest_front _ rest _ p.plus = refl
-longest_front _ [] _ (p.assign stops) = refl
-longest_front _ (byte ∷ rest) _ (p.assign stops) = ap (λ b. if b then Bad else Sign Assign) stops
+    ∙ ap (λ (w : List ℕ). if nat_lt (digits_value 10 w) (2 ^ 63) then f.Number (pos (digits_value 10 w)) (length word) else f.Refused WideNumber 0) (take-append_seam word rest)
+    ∙ ap (λ (b : Bool). if b then f.Number (pos (digits_value 10 word)) (length word) else f.Refused WideNumber 0) is
+
+closed_front : (bytes rest : List ℕ) (text : Text) → TextBytes bytes text → front (34 ∷ ((bytes ++ 34 ∷ []) ++ rest)) ≡ f.Text (length (34 ∷ (bytes ++ 34 ∷ [])) - 2)
+unfolding text_end
+closed_front bytes rest text good =
+    at_quote ((bytes ++ 34 ∷ []) ++ rest)
+    ∙ ap text_front (append_assoc bytes (34 ∷ []) rest)
+    ∙ ap text_front_at (text_end_behind 0 bytes text (34 ∷ rest) good ∙ closes rest)
+    ∙ ap f.Text (let l = length-append bytes (34 ∷ []) in let e : 0 + length bytes ≡ length (34 ∷ (bytes ++ 34 ∷ [])) - 2 = omega arith in e)
+  where
+    closes : (tail : List ℕ) → text_end (0 + length bytes) (34 ∷ tail) ≡ Closed (0 + length bytes)
+    closes [] = refl
+    closes (next ∷ tail) = refl
+
+-- which bytes are signs
+sign_byte : (byte : ℕ) (mark : Mark) → short_sign byte ≡ Some mark → begins_with_sign byte ≡ true
+unfolding short_sign
+sign_byte byte mark h = by_test (begins_with_sign byte) refl
+  where
+    by_test : (b : Bool) → begins_with_sign byte ≡ b → b ≡ true
+    by_test true e = refl
+    by_test false e = grind (arith, nat_tests)
+
+long_byte : (byte next : ℕ) (mark : Mark) → long_sign byte next ≡ Some mark → begins_with_sign byte ≡ true
+unfolding long_sign
+long_byte byte next mark h = by_test (begins_with_sign byte) refl
+  where
+    by_test : (b : Bool) → begins_with_sign byte ≡ b → b ≡ true
+    by_test true e = refl
+    by_test false e = grind (arith, nat_tests)
+
+long_is : (byte next : ℕ) (rest : List ℕ) (mark : Mark) → long_sign byte next ≡ Some mark → front (byte ∷ next ∷ rest) ≡ f.Sign mark 2
+long_is byte next rest mark h = at_sign byte (next ∷ rest) (long_byte byte next mark h) ∙ ap (long_front byte) h
+
+short_is : (byte : ℕ) (rest : List ℕ) (s : Option Mark) → begins_with_sign byte ≡ true → NoLongSign byte rest → short_sign byte ≡ s → front (byte ∷ rest) ≡ short_front s
+short_is byte [] s sign no_long h = at_sign byte [] sign ∙ ap short_front h
+short_is byte (next ∷ rest) s sign no_long h = at_sign byte (next ∷ rest) sign ∙ ap (long_front byte) no_long ∙ ap short_front h
+
+pub longest_front : (word rest : List ℕ) (form : Form) → Longest word rest form → front (word ++ rest) ≡ token_front form word
+longest_front _ rest _ (p.a_name {byte = byte} {bytes = bytes} letter passes stops no_word) = letter_front byte bytes rest None letter passes stops no_word
+longest_front _ rest _ (p.a_word {byte = byte} {bytes = bytes} {mark = mark} letter passes stops word) = letter_front byte bytes rest (Some mark) letter passes stops word
+longest_front _ rest _ (p.a_number {byte = byte} {bytes = bytes} digit passes stops small) =
+    digit_front byte bytes rest true digit passes stops (lt-ltb (digits_value 10 (byte ∷ bytes)) (2 ^ 63) small)
+longest_front _ rest _ (p.a_text {bytes = bytes} {text = text} good) = closed_front bytes rest text good
+longest_front _ rest _ (p.a_short_sign {byte = byte} {mark = mark} no_long sign) = short_is byte rest (Some mark) (sign_byte byte mark sign) no_long sign
+longest_front _ rest _ (p.a_long_sign {byte = byte} {next = next} {mark = mark} sign) = long_is byte next rest mark sign
+
+-- what the function says of what is refused
+refused_text : (bytes : List ℕ) (text : Text) (tail : List ℕ) (end : TextEnd) → TextBytes bytes text → text_end (length bytes) tail ≡ end
+    → front (34 ∷ (bytes ++ tail)) ≡ text_front_at end
+refused_text bytes text tail end good is =
+    at_quote (bytes ++ tail)
+    ∙ ap text_front_at (text_end_behind 0 bytes text tail good ∙ ap (λ (n : ℕ). text_end n tail) (let e : 0 + length bytes ≡ length bytes = omega arith in e) ∙ is)
+
+bad_end : (at byte : ℕ) (rest : List ℕ) → is_text_byte byte ≡ false → (byte == 34) ≡ false → (byte == 92) ≡ false → text_end at (byte ∷ rest) ≡ Bad at
+unfolding text_end
+bad_end at byte [] t q s = third_test (byte == 34) (byte == 92) (is_text_byte byte) false (Closed at) Open Open (Bad at) q s t
+bad_end at byte (next ∷ rest) t q s =
+    third_test (byte == 34) (byte == 92) (is_text_byte byte) false (Closed at) (if (next == 34) || (next == 92) then text_end (at + 2) rest else Bad (at + 1))
+    (text_end (at + 1) (next ∷ rest)) (Bad at) q s t
+
+bad_pair_end : (at byte : ℕ) (rest : List ℕ) → (byte == 34) ≡ false → (byte == 92) ≡ false → text_end at (92 ∷ byte ∷ rest) ≡ Bad (at + 1)
+unfolding text_end
+bad_pair_end at byte rest q s = rw (q, s) refl
+
+open_end : (at : ℕ) → text_end at [] ≡ Open
+unfolding text_end
+open_end at = refl
+
+open_pair_end : (at : ℕ) → text_end at (92 ∷ []) ≡ Open
+unfolding text_end
+open_pair_end at = refl
+
+pub refused_front : (bytes : List ℕ) (kind : RefusalKind) (offset : ℕ) → FrontRefused bytes kind offset → front bytes ≡ f.Refused kind offset
+refused_front _ _ _ (r.wide_number byte bytes rest digit passes stops wide) =
+    digit_front byte bytes rest false digit passes stops (le-ltb (digits_value 10 (byte ∷ bytes)) (2 ^ 63) wide)
+refused_front _ _ _ (r.no_sign byte rest sign no_long none) = short_is byte rest None sign no_long none
+refused_front _ _ _ (r.open_text bytes text good) =
+    ap (λ (all : List ℕ). front (34 ∷ all)) (sym (append-nil bytes)) ∙ refused_text bytes text [] Open good (open_end (length bytes))
+refused_front _ _ _ (r.open_pair bytes text good) = refused_text bytes text (92 ∷ []) Open good (open_pair_end (length bytes))
+refused_front _ _ _ (r.bad_in_text bytes text byte rest good t q s) =
+    refused_text bytes text (byte ∷ rest) (Bad (length bytes)) good (bad_end (length bytes) byte rest t q s)
+refused_front _ _ _ (r.bad_pair bytes text byte rest good q s) =
+    refused_text bytes text (92 ∷ byte ∷ rest) (Bad (length bytes + 1)) good (bad_pair_end (length bytes) byte rest q s)
+    ∙ ap (f.Refused BadByte) (let e : length bytes + 1 + 1 ≡ length bytes + 2 = omega arith in e)
 
 -- a longest token of so many bytes
 pub record Taken (bytes : List ℕ) (len : ℕ) (form : Form) : Type 0 where
@@ -92,46 +200,26 @@ pub record Taken (bytes : List ℕ) (len : ℕ) (form : Form) : Type 0 where
 
 -- what the function says is so
 abbrev pub Stands : List ℕ → Front → Type 0
-Stands bytes End = bytes ≡ []
-Stands bytes Space = bytes ≡ 32 ∷ drop 1 bytes
-Stands bytes (Name len) = Taken bytes len name
-Stands bytes (Number value len) = Taken bytes len number × (value ≡ pos (digits_value 10 (take len bytes)))
-Stands bytes (Sign mark) = Taken bytes 1 (sign mark)
-Stands bytes Bad = Unit {0}
-
-pub passes_prefix : (test : ℕ → Bool) (bytes : List ℕ) → Passes test (take (prefix_len test bytes) bytes)
-passes_prefix test [] = tt
-passes_prefix test (byte ∷ bytes) = by_test (test byte) refl (passes_prefix test bytes)
-  where
-    by_test : (b : Bool) → test byte ≡ b → Passes test (take (prefix_len test bytes) bytes) → Passes test (take (cond b (1 + prefix_len test bytes) 0) (byte ∷ bytes))
-    by_test true e rest = rw (one-add (prefix_len test bytes)) (e, rest)
-    by_test false e rest = tt
-
-stops_prefix : (test : ℕ → Bool) (bytes : List ℕ) → Stops test (drop (prefix_len test bytes) bytes)
-stops_prefix test [] = tt
-stops_prefix test (byte ∷ bytes) = by_test (test byte) refl (stops_prefix test bytes)
-  where
-    by_test : (b : Bool) → test byte ≡ b → Stops test (drop (prefix_len test bytes) bytes) → Stops test (drop (cond b (1 + prefix_len test bytes) 0) (byte ∷ bytes))
-    by_test true e rest = rw (one-add (prefix_len test bytes)) rest
-    by_test false e rest = e
-
-prefix_more : (test : ℕ → Bool) (byte : ℕ) (bytes : List ℕ) → test byte ≡ true → prefix_len test (byte ∷ bytes) ≡ suc (prefix_len test bytes)
-prefix_more test byte bytes h = ap (λ b. cond b (1 + prefix_len test bytes) 0) h ∙ one-add (prefix_len test bytes)
+Stands bytes f.End = (bytes ≡ []) ⊎ (bytes ≡ 35 ∷ drop 1 bytes)
+Stands bytes f.Space = bytes ≡ 32 ∷ drop 1 bytes
+Stands bytes (f.Name len) = Taken bytes len name
+Stands bytes (f.Number value len) = Taken bytes len number × (value ≡ pos (digits_value 10 (take len bytes)))
+Stands bytes (f.Text len) = Taken bytes (len + 2) (text_of (meaning (take len (drop 1 bytes))))
+Stands bytes (f.Sign mark len) = Taken bytes len (mark_of mark)
+Stands bytes (f.Refused kind offset) = FrontRefused bytes kind offset
 
 stands_name : (byte : ℕ) (bytes : List ℕ) → is_letter byte ≡ true → Stands (byte ∷ bytes) (name_front (byte ∷ bytes))
 unfolding name_front_at
 stands_name byte bytes letter =
-    let n = prefix_len is_name_byte bytes in
     let more = prefix_more is_name_byte byte bytes (letter_goes_on byte letter) in
-    subst (λ (len : ℕ). Stands (byte ∷ bytes) (name_front_at (byte ∷ bytes) len)) (sym more) (by_test (is_word (byte ∷ take n bytes)) refl)
+    subst (λ (len : ℕ). Stands (byte ∷ bytes) (name_front_at (byte ∷ bytes) len)) (sym more) (by_word (word_of (byte ∷ take (prefix_len is_name_byte bytes) bytes)) refl)
   where
-    by_test : (b : Bool) → is_word (byte ∷ take (prefix_len is_name_byte bytes) bytes) ≡ b → Stands (byte ∷ bytes) (if b then Bad else Name (suc (prefix_len is_name_byte bytes)))
-    by_test true e = tt
-    by_test false e = record {
-      longest = p.a_name letter (passes_prefix is_name_byte bytes) (stops_prefix is_name_byte bytes) e;
-      within = let w = prefix_len-le-length is_name_byte bytes in omega arith;
-      some = omega arith;
-    }
+    short : suc (prefix_len is_name_byte bytes) ≤ length (byte ∷ bytes)
+    short = let w = prefix_len-le-length is_name_byte bytes in omega arith
+
+    by_word : (w : Option Mark) → word_of (byte ∷ take (prefix_len is_name_byte bytes) bytes) ≡ w → Stands (byte ∷ bytes) (word_front (suc (prefix_len is_name_byte bytes)) w)
+    by_word (Some mark) e = record { longest = p.a_word letter (passes_prefix is_name_byte bytes) (stops_prefix is_name_byte bytes) e; within = short; some = omega arith }
+    by_word None e = record { longest = p.a_name letter (passes_prefix is_name_byte bytes) (stops_prefix is_name_byte bytes) e; within = short; some = omega arith }
 
 stands_number : (byte : ℕ) (bytes : List ℕ) → is_digit byte ≡ true → Stands (byte ∷ bytes) (number_front (byte ∷ bytes))
 unfolding number_front_at
@@ -141,7 +229,8 @@ stands_number byte bytes digit =
     subst (λ (len : ℕ). Stands (byte ∷ bytes) (number_front_at (byte ∷ bytes) len)) (sym more) (by_test (nat_lt (digits_value 10 (byte ∷ take n bytes)) (2 ^ 63)) refl)
   where
     by_test : (b : Bool) → nat_lt (digits_value 10 (byte ∷ take (prefix_len is_digit bytes) bytes)) (2 ^ 63) ≡ b
-        → Stands (byte ∷ bytes) (if b then Number (pos (digits_value 10 (byte ∷ take (prefix_len is_digit bytes) bytes))) (suc (prefix_len is_digit bytes)) else Bad)
+        → Stands (byte ∷ bytes)
+        (if b then f.Number (pos (digits_value 10 (byte ∷ take (prefix_len is_digit bytes) bytes))) (suc (prefix_len is_digit bytes)) else f.Refused WideNumber 0)
     by_test true e = (
       record {
         longest = p.a_number digit (passes_prefix is_digit bytes) (stops_prefix is_digit bytes) (ltb-true (digits_value 10 (byte ∷ take (prefix_len is_digit bytes) bytes)) (2 ^ 63) e);
@@ -150,48 +239,79 @@ stands_number byte bytes digit =
       },
       refl,
     )
-    by_test false e = tt
+    by_test false e =
+        subst (λ (all : List ℕ). FrontRefused (byte ∷ all) WideNumber 0) (take-append-drop (prefix_len is_digit bytes) bytes)
+        (r.wide_number byte _ _ digit (passes_prefix is_digit bytes) (stops_prefix is_digit bytes) (ltb-false (digits_value 10 (byte ∷ take (prefix_len is_digit bytes) bytes)) (2 ^ 63) e))
 
-stands_assign : (rest : List ℕ) → Stands (61 ∷ rest) (assign_front rest)
-stands_assign [] = record { longest = p.assign tt; within = omega arith; some = omega arith }
-stands_assign (byte ∷ rest) = by_test (byte == 61) refl
+stands_text : (rest : List ℕ) → Stands (34 ∷ rest) (text_front rest)
+stands_text rest = by_end (text_end 0 rest) (text_stands rest)
   where
-    by_test : (b : Bool) → (byte == 61) ≡ b → Stands (61 ∷ byte ∷ rest) (if b then Bad else Sign Assign)
-    by_test true e = tt
-    by_test false e = record { longest = p.assign e; within = omega arith; some = omega arith }
+    closed : (len : ℕ) → ClosedText rest len → Taken (34 ∷ rest) (len + 2) (text_of (meaning (take len rest)))
+    closed len c =
+        let inner = take len rest in
+        let behind = drop (len + 1) rest in
+        let word : List ℕ = 34 ∷ (inner ++ 34 ∷ []) in
+        let long : length word ≡ len + 2 = let l = length-append inner (34 ∷ []) in let t = length-take-le len rest (let w = c.within in omega arith) in omega arith in
+        let all : word ++ behind ≡ 34 ∷ rest = ap (λ (l : List ℕ). 34 ∷ l) (append_assoc inner (34 ∷ []) behind ∙ sym c.closes) in
+        let front : take (len + 2) (34 ∷ rest) ≡ word = sym (ap (λ (n : ℕ). take n (word ++ behind)) long ∙ ap (take (len + 2)) all) ∙ take-append_seam word behind in
+        let back : drop (len + 2) (34 ∷ rest) ≡ behind = sym (ap (λ (n : ℕ). drop n (word ++ behind)) long ∙ ap (drop (len + 2)) all) ∙ drop-append_seam word behind in
+        record {
+          longest =
+              subst (λ (w : List ℕ). Longest w (drop (len + 2) (34 ∷ rest)) (text_of (meaning inner))) (sym front)
+              (subst (λ (b : List ℕ). Longest word b (text_of (meaning inner))) (sym back) (p.a_text c.good));
+          within = let w = c.within in omega arith;
+          some = omega arith;
+        }
 
--- one test on the first byte
-sign_at : (at byte : ℕ) (rest : List ℕ) (x y : Front) → Stands (at ∷ rest) x → Stands (byte ∷ rest) y → Stands (byte ∷ rest) (if byte == at then x else y)
-sign_at at byte rest x y here there = by_test (byte == at) refl
+    by_end : (e : TextEnd) → TextStands rest e → Stands (34 ∷ rest) (text_front_at e)
+    by_end (Closed len) c = closed len c
+    by_end Open c = c
+    by_end (Bad at) c = c
+
+stands_short : (byte : ℕ) (rest : List ℕ) → begins_with_sign byte ≡ true → NoLongSign byte rest → (s : Option Mark) → short_sign byte ≡ s → Stands (byte ∷ rest) (short_front s)
+stands_short byte rest sign no_long (Some mark) e = record { longest = p.a_short_sign no_long e; within = omega arith; some = omega arith }
+stands_short byte rest sign no_long None e = r.no_sign byte rest sign no_long e
+
+stands_sign : (byte : ℕ) (rest : List ℕ) → begins_with_sign byte ≡ true → Stands (byte ∷ rest) (sign_front byte rest)
+stands_sign byte [] sign = stands_short byte [] sign tt (short_sign byte) refl
+stands_sign byte (next ∷ rest) sign = by_long (long_sign byte next) refl
   where
-    by_test : (b : Bool) → (byte == at) ≡ b → Stands (byte ∷ rest) (if b then x else y)
-    by_test true e = subst (λ (first : ℕ). Stands (first ∷ rest) x) (sym ((Decides-eqb byte at).0 e)) here
-    by_test false e = there
+    by_long : (s : Option Mark) → long_sign byte next ≡ s → Stands (byte ∷ next ∷ rest) (long_front byte s)
+    by_long (Some mark) e = record { longest = p.a_long_sign e; within = omega arith; some = omega arith }
+    by_long None e = stands_short byte (next ∷ rest) sign e (short_sign byte) refl
 
-one_byte : {byte : ℕ} {rest : List ℕ} {form : Form} → Longest (byte ∷ []) rest form → Taken (byte ∷ rest) 1 form
-one_byte longest = record { longest = longest; within = omega arith; some = omega arith }
-
-stands_sign : (byte : ℕ) (rest : List ℕ) → Stands (byte ∷ rest) (sign_front byte rest)
-unfolding sign_front
-stands_sign byte rest =
-    sign_at 40 byte rest _ _ (one_byte p.open_paren) (
-    sign_at 41 byte rest _ _ (one_byte p.close_paren) (
-    sign_at 123 byte rest _ _ (one_byte p.open_brace) (
-    sign_at 125 byte rest _ _ (one_byte p.close_brace) (
-    sign_at 46 byte rest _ _ (one_byte p.dot) (
-    sign_at 43 byte rest _ _ (one_byte p.plus) (
-    sign_at 61 byte rest _ _ (stands_assign rest) tt))))))
+all_false : (a b c d e : Bool) → a ≡ false → b ≡ false → c ≡ false → d ≡ false → e ≡ false → not (a || b || c || d || e) ≡ true
+all_false a b c d e ha hb hc hd he = rw (ha, hb, hc, hd, he) refl
 
 pub stands : (bytes : List ℕ) → Stands bytes (front bytes)
 unfolding front
-stands [] = refl
-stands (byte ∷ rest) =
-    sign_at 32 byte rest _ _ refl (by_letter (is_letter byte) refl)
+stands [] = inl refl
+stands (byte ∷ rest) = by_space (byte == 32) refl
   where
-    by_digit : (b : Bool) → is_digit byte ≡ b → Stands (byte ∷ rest) (if b then number_front (byte ∷ rest) else sign_front byte rest)
-    by_digit true e = stands_number byte rest e
-    by_digit false e = stands_sign byte rest
+    by_quote : (b : Bool) → (byte == 34) ≡ b → (byte == 32) ≡ false → (byte == 35) ≡ false → is_letter byte ≡ false → is_digit byte ≡ false
+        → Stands (byte ∷ rest) (if b then text_front rest else sign_front byte rest)
+    by_quote true q s h l d = subst (λ (first : ℕ). Stands (first ∷ rest) (text_front rest)) (sym ((Decides-eqb byte 34).0 q)) (stands_text rest)
+    by_quote false q s h l d = stands_sign byte rest (all_false (byte == 32) (byte == 35) (is_letter byte) (is_digit byte) (byte == 34) s h l d q)
 
-    by_letter : (b : Bool) → is_letter byte ≡ b → Stands (byte ∷ rest) (if b then name_front (byte ∷ rest) else if is_digit byte then number_front (byte ∷ rest) else sign_front byte rest)
-    by_letter true e = stands_name byte rest e
-    by_letter false e = by_digit (is_digit byte) refl
+    by_digit : (b : Bool) → is_digit byte ≡ b → (byte == 32) ≡ false → (byte == 35) ≡ false → is_letter byte ≡ false
+        → Stands (byte ∷ rest) (if b then number_front (byte ∷ rest) else if byte == 34 then text_front rest else sign_front byte rest)
+    by_digit true d s h l = stands_number byte rest d
+    by_digit false d s h l = by_quote (byte == 34) refl s h l d
+
+    by_letter : (b : Bool) → is_letter byte ≡ b → (byte == 32) ≡ false → (byte == 35) ≡ false
+        → Stands (byte ∷ rest) (if b then name_front (byte ∷ rest) else if is_digit byte then number_front (byte ∷ rest) else if byte == 34 then text_front rest else sign_front byte rest)
+    by_letter true l s h = stands_name byte rest l
+    by_letter false l s h = by_digit (is_digit byte) refl s h l
+
+    by_hash : (b : Bool) → (byte == 35) ≡ b → (byte == 32) ≡ false
+        → Stands (byte ∷ rest)
+        (if b then f.End else if is_letter byte then name_front (byte ∷ rest) else if is_digit byte then number_front (byte ∷ rest) else if byte == 34 then text_front rest else sign_front byte rest)
+    by_hash true h s = inr (ap (λ (first : ℕ). first ∷ rest) ((Decides-eqb byte 35).0 h))
+    by_hash false h s = by_letter (is_letter byte) refl s h
+
+    by_space : (b : Bool) → (byte == 32) ≡ b
+        → Stands (byte ∷ rest)
+        (if b then f.Space else if byte == 35 then f.End else if is_letter byte then name_front (byte ∷ rest) else if is_digit byte then number_front (byte ∷ rest)
+        else if byte == 34 then text_front rest else sign_front byte rest)
+    by_space true s = ap (λ (first : ℕ). first ∷ rest) ((Decides-eqb byte 32).0 s)
+    by_space false s = by_hash (byte == 35) refl s

@@ -1,139 +1,120 @@
 -- The lines of a script, one after another.
-use Rattle.std.proofs.Common.{◌≡◌, ◌∙◌, ℕ, suc, ◌+◌, ◌<◌, Bool, true, false, cond, not, List, [], ◌∷◌, ◌++◌, length, take, drop, refl, sym, ap, subst, arith, append_assoc, append-nil, length-append, one-add, true≢false}
+use Rattle.std.proofs.Common.{◌≡◌, ◌∙◌, ℕ, suc, ◌+◌, ◌<◌, Bool, true, false, List, [], ◌∷◌, ◌++◌, length, map, take, drop, refl, sym, ap, subst, append_assoc, one-add, arith, true≢false}
 use Rattle.std.specs.Prelude.{◌==◌, if◌then◌else◌}
-use Rattle.std.specs.List.{AllZip, flat_map, prefix_len}
-use Rattle.std.proofs.lemmas.Grind.{flat_map-append, fold-append}
 use Rattle.std.proofs.lemmas.Bool.Decides.{Decides-eqb}
+use Rattle.lf_base.specs.declared.refusals.Refusal.{Refusal}
 use Rattle.lf_base.specs.declared.refusals.ReadFail.{ReadFail}
 use Rattle.lf_base.specs.declared.refusals.ReadFail.TheVariants as fail
-use Rattle.lf_base.specs.Lines.{lines, with_byte}
-use Rattle.lf_base.specs.Texts.{Text, with_text, with_texts, fixed_texts, Grows}
-use Rattle.lf_base.proofs.TextLemmas.{grows_self, grows_on, grows-with_texts}
+use Rattle.lf_base.specs.Lines.{with_byte}
+use Rattle.lf_base.specs.Texts.{Text, with_texts}
+use Rattle.lf_base.proofs.TextLemmas.{grows_self}
 use Rattle.lf_lexer.specs.declared.tokens.Token.{Token}
 use Rattle.lf_lexer.specs.declared.lexed.Lexed.{Lexed}
-use Rattle.lf_lexer.specs.declared.lexed.LineStart.{LineStart}
-use Rattle.lf_lexer.specs.Lexing.{LexesLine, RefusesLine, StartsEmpty, LexesLines, refusal_of}
-use Rattle.lf_lexer.specs.Pieces.{Piece, LineSpells}
-use Rattle.lf_lexer.specs.Reading.{FailsAs}
-use Rattle.lf_lexer.specs.Tokens.{texts_of_pieces, texts_of, line_tokens, last_line, tokens_from}
+use Rattle.lf_lexer.specs.declared.line_start.LineStart.{LineStart}
+use Rattle.lf_lexer.specs.Pieces.{Piece}
+use Rattle.lf_lexer.specs.SourceLines.{full_lines, full_line_len, content}
+use Rattle.lf_lexer.specs.Tokens.{texts_of_pieces, token_of}
+use Rattle.lf_lexer.specs.Reading.{first_line, line_behind, closing, LinesSpell, Spells}
+use Rattle.lf_lexer.specs.Reading as spell
+use Rattle.lf_lexer.specs.Refusals.{LinesRefused, FailsAs}
+use Rattle.lf_lexer.specs.Refusals as r
+use Rattle.lf_lexer.specs.Lexing.{Adds, StartsEmpty, Descend, LexesLine, RefusesLine, LexesLines}
+use Rattle.lf_lexer.proofs.Adding.{adds_none, adds_on}
 
--- the first line, and the lines behind it
-pub lines_next : (byte : ℕ) (bytes : List ℕ) → lines (byte ∷ bytes)
-    ≡ take (prefix_len (λ (b : ℕ). not (b == 10)) (byte ∷ bytes)) (byte ∷ bytes) ∷ lines (drop 1 (drop (prefix_len (λ (b : ℕ). not (b == 10)) (byte ∷ bytes)) (byte ∷ bytes)))
-lines_next byte [] = by_test (byte == 10)
+-- the first line with its end, and the lines behind it
+pub full_lines_next : (byte : ℕ) (bytes : List ℕ) → full_lines (byte ∷ bytes)
+    ≡ take (full_line_len (byte ∷ bytes)) (byte ∷ bytes) ∷ full_lines (drop (full_line_len (byte ∷ bytes)) (byte ∷ bytes))
+full_lines_next byte [] = by_test (byte == 10) refl
   where
-    by_test : (b : Bool) → (if b then [] ∷ [] else (byte ∷ []) ∷ []) ≡ take (cond (not b) 1 0) (byte ∷ []) ∷ lines (drop 1 (drop (cond (not b) 1 0) (byte ∷ [])))
-    by_test true = refl
-    by_test false = refl
-lines_next byte (next ∷ rest) = by_test (byte == 10) (lines_next next rest)
+    by_test : (b : Bool) → (byte == 10) ≡ b → (if b then (10 ∷ []) ∷ [] else (byte ∷ []) ∷ []) ≡ take (if b then 1 else 1 + 0) (byte ∷ []) ∷ full_lines (drop (if b then 1 else 1 + 0) (byte ∷ []))
+    by_test true e = ap (λ (first : ℕ). (first ∷ []) ∷ []) (sym ((Decides-eqb byte 10).0 e))
+    by_test false e = refl
+full_lines_next byte (next ∷ rest) = by_test (byte == 10) refl (full_lines_next next rest)
   where
-    by_test : (b : Bool)
-        → lines (next ∷ rest) ≡ take (prefix_len (λ (b : ℕ). not (b == 10)) (next ∷ rest)) (next ∷ rest) ∷ lines (drop 1 (drop (prefix_len (λ (b : ℕ). not (b == 10)) (next ∷ rest)) (next ∷ rest)))
-        → (if b then [] ∷ lines (next ∷ rest) else with_byte byte (lines (next ∷ rest)))
-        ≡ take (cond (not b) (1 + prefix_len (λ (b : ℕ). not (b == 10)) (next ∷ rest)) 0) (byte ∷ next ∷ rest)
-        ∷ lines (drop 1 (drop (cond (not b) (1 + prefix_len (λ (b : ℕ). not (b == 10)) (next ∷ rest)) 0) (byte ∷ next ∷ rest)))
-    by_test true e = refl
-    by_test false e =
-        ap (with_byte byte) e
-        ∙ ap (λ (n : ℕ). take n (byte ∷ next ∷ rest) ∷ lines (drop 1 (drop n (byte ∷ next ∷ rest)))) (sym (one-add (prefix_len (λ (b : ℕ). not (b == 10)) (next ∷ rest))))
-
-all_zip_push : {A B : Type 0} (R : A → B → Type 0) (xs : List A) (ys : List B) (x : A) (y : B) → AllZip R xs ys → R x y → AllZip R (xs ++ x ∷ []) (ys ++ y ∷ [])
-all_zip_push R [] [] x y all here = (here, tt)
-all_zip_push R [] (z ∷ ys) x y all here = absurd all
-all_zip_push R (z ∷ xs) [] x y all here = absurd all
-all_zip_push R (z ∷ xs) (w ∷ ys) x y all here = (all.0, all_zip_push R xs ys x y all.1 here)
+    by_test : (b : Bool) → (byte == 10) ≡ b
+        → full_lines (next ∷ rest) ≡ take (full_line_len (next ∷ rest)) (next ∷ rest) ∷ full_lines (drop (full_line_len (next ∷ rest)) (next ∷ rest))
+        → (if b then (10 ∷ []) ∷ full_lines (next ∷ rest) else with_byte byte (full_lines (next ∷ rest)))
+        ≡ take (if b then 1 else 1 + full_line_len (next ∷ rest)) (byte ∷ next ∷ rest) ∷ full_lines (drop (if b then 1 else 1 + full_line_len (next ∷ rest)) (byte ∷ next ∷ rest))
+    by_test true e h = ap (λ (first : ℕ). (first ∷ []) ∷ full_lines (next ∷ rest)) (sym ((Decides-eqb byte 10).0 e))
+    by_test false e h =
+        ap (with_byte byte) h
+        ∙ ap (λ (n : ℕ). take n (byte ∷ next ∷ rest) ∷ full_lines (drop n (byte ∷ next ∷ rest))) (sym (one-add (full_line_len (next ∷ rest))))
 
 -- the lines so far of a script, of which this rest is left
-pub record LinesSoFar (bytes : List ℕ) (lexed : Lexed) (number start last : ℕ) (rest : List ℕ) : Type 0 where
-  pub before : List (List ℕ)
-  pub pieces : List (List Piece)
-  pub split : lines bytes ≡ before ++ lines rest
-  pub spelled : AllZip LineSpells before pieces
-  pub number_is : number ≡ length before + 1
-  pub texts_are : lexed.texts ≡ texts_of pieces
-  pub tokens_are : (after : List Text) → Grows lexed.texts after → (size : ℕ) (later : List (List ℕ)) (spelled : List (List Piece))
-      → tokens_from after size 1 0 0 (before ++ later) (pieces ++ spelled) ≡ lexed.tokens ++ tokens_from after size number start last later spelled
+pub record LinesSoFar (bytes : List ℕ) (old new : Lexed) (levels : List ℕ) (last : ℕ) (line : LineStart) (rest : List ℕ) : Type 0 where
+  pub pieces : List Piece
+  pub on : (others : List Piece) → LinesSpell (length bytes) levels last line (full_lines rest) others
+      → LinesSpell (length bytes) [] 0 first_line (full_lines bytes) (pieces ++ others)
+  pub refused : (refusal : Refusal) → LinesRefused levels line (full_lines rest) refusal → LinesRefused [] first_line (full_lines bytes) refusal
+  pub descend : Descend levels
+  pub adds : Adds old new pieces
 
-pub lines_start : (bytes : List ℕ) (lexed : Lexed) → StartsEmpty lexed → LinesSoFar bytes lexed 1 0 0 bytes
-lines_start bytes lexed empty = record {
-  before = [];
+pub lines_start : (bytes : List ℕ) (old : Lexed) (levels : List ℕ) → levels ≡ [] → LinesSoFar bytes old old levels 0 first_line bytes
+lines_start bytes old levels none = subst (λ (l : List ℕ). LinesSoFar bytes old old l 0 first_line bytes) (sym none) (record {
   pieces = [];
-  split = refl;
-  spelled = tt;
-  number_is = refl;
-  texts_are = empty.texts;
-  tokens_are = λ after grows size later spelled. sym (ap (λ (ts : List Token). ts ++ tokens_from after size 1 0 0 later spelled) empty.tokens);
-}
-
-texts_push : (base : List Text) (pieces : List (List Piece)) (more : List Piece)
-    → with_texts base (flat_map texts_of_pieces (pieces ++ more ∷ [])) ≡ with_texts (with_texts base (flat_map texts_of_pieces pieces)) (texts_of_pieces more)
-texts_push base pieces more =
-    ap (with_texts base) (flat_map-append texts_of_pieces pieces (more ∷ []) ∙ ap (λ (ts : List Text). flat_map texts_of_pieces pieces ++ ts) (append-nil (texts_of_pieces more)))
-    ∙ fold-append with_text base (flat_map texts_of_pieces pieces) (texts_of_pieces more)
+  on = λ others spells. spells;
+  refused = λ refusal is. is;
+  descend = tt;
+  adds = adds_none old;
+})
 
 -- one line more
-pub lines_step : (bytes : List ℕ) (old new : Lexed) (line : LineStart) (last : ℕ) (rest here left : List ℕ) (has_pieces : Bool) (after_last : ℕ)
-    → lines rest ≡ here ∷ lines left → LexesLine line here old new has_pieces → after_last ≡ (if has_pieces then line.number else last)
-    → LinesSoFar bytes old line.number line.start last rest
-    → LinesSoFar bytes new (line.number + 1) (line.start + length here + 1) after_last left
-lines_step bytes old new line last rest here left has_pieces after_last next lexes last_is s = record {
-  before = s.before ++ here ∷ [];
-  pieces = s.pieces ++ lexes.pieces ∷ [];
-  split = s.split ∙ ap (λ (ls : List (List ℕ)). s.before ++ ls) next ∙ sym (append_assoc s.before (here ∷ []) (lines left));
-  spelled = all_zip_push LineSpells s.before s.pieces here lexes.pieces s.spelled lexes.spells;
-  number_is = let e : length (s.before ++ here ∷ []) ≡ length s.before + 1 = length-append s.before (here ∷ []) in let n = s.number_is in omega arith;
-  texts_are =
-      lexes.texts ∙ ap (λ (ts : List Text). with_texts ts (texts_of_pieces lexes.pieces)) s.texts_are
-      ∙ sym (texts_push fixed_texts s.pieces lexes.pieces);
-  tokens_are = λ after grows size later spelled.
-      let old_grows : Grows old.texts after =
-      grows_on old.texts new.texts after (subst (Grows old.texts) (sym lexes.texts) (grows-with_texts old.texts (texts_of_pieces lexes.pieces))) grows in
-      let tail = λ (n : ℕ). tokens_from after size (line.number + 1) (line.start + length here + 1) n later spelled in
-      let here_tokens = line_tokens after line.number line.start lexes.pieces in
-      ap (λ (ls : List (List ℕ)). tokens_from after size 1 0 0 ls ((s.pieces ++ lexes.pieces ∷ []) ++ spelled)) (append_assoc s.before (here ∷ []) later)
-      ∙ ap (tokens_from after size 1 0 0 (s.before ++ here ∷ later)) (append_assoc s.pieces (lexes.pieces ∷ []) spelled)
-      ∙ s.tokens_are after old_grows size (here ∷ later) (lexes.pieces ∷ spelled)
-      ∙ sym (append_assoc old.tokens here_tokens (tail (last_line line.number last lexes.pieces)))
-      ∙ ap (λ (ts : List Token). ts ++ tail (last_line line.number last lexes.pieces)) (sym (lexes.tokens after grows))
-      ∙ ap (λ (n : ℕ). new.tokens ++ tail n) (lexes.last last ∙ sym last_is);
-}
-
-pub lines_end : (bytes : List ℕ) (lexed : Lexed) (number start last : ℕ) (rest : List ℕ) → rest ≡ [] → LinesSoFar bytes lexed number start last rest → LexesLines bytes lexed last
-lines_end bytes lexed number start last rest none s =
-    let all : lines bytes ≡ s.before = s.split ∙ ap (λ (bs : List ℕ). s.before ++ lines bs) none ∙ append-nil s.before in
-    record {
+pub lines_step : (bytes : List ℕ) (old new newer : Lexed) (levels after : List ℕ) (last next_last : ℕ) (line : LineStart) (rest here behind : List ℕ) (filled : Bool)
+    → full_lines rest ≡ here ∷ full_lines behind → LexesLine line (content here) levels after new newer filled → next_last ≡ (if filled then line.number else last)
+    → LinesSoFar bytes old new levels last line rest → LinesSoFar bytes old newer after next_last (line_behind line here) behind
+lines_step bytes old new newer levels after last next_last line rest here behind false split blank last_is s =
+    subst (λ (l : List ℕ). LinesSoFar bytes old newer l next_last (line_behind line here) behind) (sym blank.levels_stay)
+    (subst (λ (x : Lexed). LinesSoFar bytes old x levels next_last (line_behind line here) behind) (sym blank.lexed_stays)
+    (subst (λ (n : ℕ). LinesSoFar bytes old new levels n (line_behind line here) behind) (sym last_is) (record {
       pieces = s.pieces;
-      spelled = subst (λ (ls : List (List ℕ)). AllZip LineSpells ls s.pieces) (sym all) s.spelled;
-      texts = s.texts_are;
-      tokens = λ size.
-          ap (λ (ls : List (List ℕ)). tokens_from lexed.texts size 1 0 0 ls s.pieces) (all ∙ sym (append-nil s.before))
-          ∙ ap (tokens_from lexed.texts size 1 0 0 (s.before ++ [])) (sym (append-nil s.pieces))
-          ∙ s.tokens_are lexed.texts (grows_self lexed.texts) size [] [];
-    }
+      on = λ others spells. s.on others (subst (λ (ls : List (List ℕ)). LinesSpell (length bytes) levels last line ls others) (sym split) (spell.behind_blank blank.blank spells));
+      refused = λ refusal is. s.refused refusal (subst (λ (ls : List (List ℕ)). LinesRefused levels line ls refusal) (sym split) (r.behind_blank blank.blank is));
+      descend = s.descend;
+      adds = s.adds;
+    })))
+lines_step bytes old new newer levels after last next_last line rest here behind true split lexes last_is s =
+    subst (λ (n : ℕ). LinesSoFar bytes old newer after n (line_behind line here) behind) (sym last_is) (record {
+      pieces = s.pieces ++ lexes.pieces;
+      on = λ others spells.
+          subst (LinesSpell (length bytes) [] 0 first_line (full_lines bytes)) (sym (append_assoc s.pieces lexes.pieces others))
+          (s.on (lexes.pieces ++ others)
+          (subst (λ (ls : List (List ℕ)). LinesSpell (length bytes) levels last line ls (lexes.pieces ++ others)) (sym split) (spell.behind_filled lexes.spells spells)));
+      refused = λ refusal is. s.refused refusal (subst (λ (ls : List (List ℕ)). LinesRefused levels line ls refusal) (sym split) (r.behind_filled lexes.spells is));
+      descend = lexes.descend;
+      adds = adds_on old new newer s.pieces lexes.pieces s.adds lexes.adds;
+    })
 
-pub lines_refused : (bytes : List ℕ) (lexed : Lexed) (line : LineStart) (last : ℕ) (rest here left : List ℕ) (f : ReadFail)
-    → lines rest ≡ here ∷ lines left → RefusesLine line here f → LinesSoFar bytes lexed line.number line.start last rest → FailsAs bytes f
-lines_refused bytes lexed line last rest here left (fail.Refused refusal) next refuses s = record {
-  before = s.before;
-  line = here;
-  after = lines left;
+pub lines_end : (bytes : List ℕ) (old new : Lexed) (levels : List ℕ) (last : ℕ) (line : LineStart) (rest : List ℕ) → rest ≡ []
+    → LinesSoFar bytes old new levels last line rest → LexesLines bytes old new levels last
+lines_end bytes old new levels last line rest none s = record {
   pieces = s.pieces;
-  split = s.split ∙ ap (λ (ls : List (List ℕ)). s.before ++ ls) next;
-  spelled = s.spelled;
-  not_spelled = refuses.1;
-  refusal_is = refuses.0 ∙ ap refusal_of s.number_is;
+  spelled = s.on (closing (length bytes) last levels) (subst (λ (bs : List ℕ). LinesSpell (length bytes) levels last line (full_lines bs) (closing (length bytes) last levels)) (sym none) spell.no_line);
+  adds = s.adds;
 }
-lines_refused bytes lexed line last rest here left fail.OutOfMemory next refuses s = tt
+
+pub lines_refused : (bytes : List ℕ) (old new : Lexed) (levels : List ℕ) (last : ℕ) (line : LineStart) (rest here behind : List ℕ) (f : ReadFail)
+    → full_lines rest ≡ here ∷ full_lines behind → RefusesLine line levels (content here) f → LinesSoFar bytes old new levels last line rest → FailsAs bytes f
+lines_refused bytes old new levels last line rest here behind (fail.Refused refusal) split refused s =
+    s.refused refusal (subst (λ (ls : List (List ℕ)). LinesRefused levels line ls refusal) (sym split) (r.on_this_line refused))
+lines_refused bytes old new levels last line rest here behind fail.OutOfMemory split refused s = tt
 
 -- the first line of a rest, and what is left behind it
-pub lines_split : (rest here after left : List ℕ) (len : ℕ) → 0 < length rest → len ≡ prefix_len (λ (b : ℕ). not (b == 10)) rest
-    → here ≡ take len rest → after ≡ drop len rest → left ≡ drop 1 after → lines rest ≡ here ∷ lines left
-lines_split [] here after left len some len_is here_is after_is left_is = absurd (omega arith)
-lines_split (byte ∷ bytes) here after left len some len_is here_is after_is left_is =
-    lines_next byte bytes
-    ∙ ap (λ (n : ℕ). take n (byte ∷ bytes) ∷ lines (drop 1 (drop n (byte ∷ bytes)))) (sym len_is)
-    ∙ ap (λ (l : List ℕ). l ∷ lines (drop 1 (drop len (byte ∷ bytes)))) (sym here_is)
-    ∙ ap (λ (l : List ℕ). here ∷ lines l) (sym (left_is ∙ ap (drop 1) after_is))
+pub lines_split : (rest here behind : List ℕ) (len : ℕ) → 0 < length rest → len ≡ full_line_len rest → here ≡ take len rest → behind ≡ drop len rest
+    → full_lines rest ≡ here ∷ full_lines behind
+lines_split [] here behind len some len_is here_is behind_is = absurd (omega arith)
+lines_split (byte ∷ bytes) here behind len some len_is here_is behind_is =
+    full_lines_next byte bytes
+    ∙ ap (λ (n : ℕ). take n (byte ∷ bytes) ∷ full_lines (drop n (byte ∷ bytes))) (sym len_is)
+    ∙ ap (λ (l : List ℕ). l ∷ full_lines (drop len (byte ∷ bytes))) (sym here_is)
+    ∙ ap (λ (l : List ℕ). here ∷ full_lines l) (sym behind_is)
+
+pub some_line : (rest : List ℕ) → 0 < length rest → 0 < full_line_len rest
+some_line [] some = absurd (omega arith)
+some_line (byte ∷ rest) some = by_test (byte == 10)
+  where
+    by_test : (b : Bool) → 0 < (if b then 1 else 1 + full_line_len rest)
+    by_test true = omega arith
+    by_test false = omega arith
 
 -- what the test on the rest's length says
 pub nothing_left : (rest : List ℕ) (empty : Bool) → empty ≡ (length rest == 0) → empty ≡ true → rest ≡ []
@@ -143,3 +124,16 @@ nothing_left (byte ∷ rest) empty e t = let none : suc (length rest) ≡ 0 = (D
 pub something_left : (rest : List ℕ) (empty : Bool) → empty ≡ (length rest == 0) → empty ≡ false → 0 < length rest
 something_left [] empty e f = absurd (true≢false (sym e ∙ f))
 something_left (byte ∷ rest) empty e f = omega arith
+
+-- all lines, and the end of the script
+pub script_spelled : (bytes : List ℕ) (start old new : Lexed) (levels : List ℕ) (last : ℕ) → StartsEmpty start → LexesLines bytes start old levels last
+    → Adds old new (closing (length bytes) last levels) → Spells bytes new.tokens new.texts
+script_spelled bytes start old new levels last empty lexes closes =
+    let all = lexes.pieces ++ closing (length bytes) last levels in
+    let adds = adds_on start old new lexes.pieces (closing (length bytes) last levels) lexes.adds closes in
+    record {
+      pieces = all;
+      spelled = lexes.spelled;
+      texts_are = adds.texts ∙ ap (λ (ts : List Text). with_texts ts (texts_of_pieces all)) empty.texts;
+      tokens_are = adds.tokens new.texts (grows_self new.texts) ∙ ap (λ (ts : List Token). ts ++ map (token_of new.texts) all) empty.tokens;
+    }

@@ -1,5 +1,5 @@
 -- The kinds of bytes that tokens are made of.
-use Rattle.std.specs.Prelude.{◌≡◌, ℕ, ◌==◌, ◌||◌, ◌&&◌, Bool, true, false, List, [], ◌∷◌, codes, nat_le}
+use Rattle.std.specs.Prelude.{◌≡◌, ℕ, ◌==◌, ◌||◌, ◌&&◌, Bool, not, true, false, List, [], ◌∷◌, codes, nat_le}
 use Rattle.std.specs.List.{list_any}
 use Rattle.std.specs.Str.{bytes_eq}
 
@@ -23,6 +23,10 @@ words =
 
 abbrev pub is_word : List ℕ → Bool
 is_word bytes = list_any (bytes_eq bytes) words
+
+-- what stands in a text for itself
+abbrev pub is_text_byte : ℕ → Bool
+is_text_byte byte = nat_le 32 byte && nat_le byte 126 && not (byte == 34) && not (byte == 92)
 
 -- each of the bytes passes
 abbrev pub Passes : (ℕ → Bool) → List ℕ → Type 0

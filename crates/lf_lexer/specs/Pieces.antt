@@ -1,49 +1,59 @@
--- The pieces of a line: its tokens before their texts are numbered.
-use Rattle.std.specs.Prelude.{◌≡◌, ℕ, ◌+◌, ◌<◌, ◌^◌, ◌==◌, true, false, List, [], ◌∷◌, ◌++◌, length}
+-- The pieces of a script: its tokens before their texts are numbered.
+use Rattle.std.specs.Prelude.{◌≡◌, ℕ, ◌+◌, ◌<◌, ◌^◌, true, List, [], ◌∷◌, ◌++◌, length, Some, None}
 use Rattle.std.specs.Str.Parse.{digits_value}
+use Rattle.lf_base.specs.Texts.{Text}
 use Rattle.lf_lexer.specs.declared.tokens.Mark.{Mark}
-use Rattle.lf_lexer.specs.declared.tokens.Mark.TheVariants.{OpenParen, CloseParen, OpenBrace, CloseBrace, Dot, Assign, Plus}
-use Rattle.lf_lexer.specs.Bytes.{is_digit, is_letter, is_name_byte, is_word, Passes, Stops}
+use Rattle.lf_lexer.specs.declared.line_start.LineStart.{LineStart}
+use Rattle.lf_lexer.specs.Bytes.{is_digit, is_letter, is_name_byte, is_text_byte, Passes, Stops}
+use Rattle.lf_lexer.specs.Marks.{word_of, short_sign, long_sign}
 
--- what a piece is
+-- what a piece is; the last four have no bytes
 pub data Form : Type 0 where
   name : Form
   number : Form
-  sign : Mark → Form
+  text_of : Text → Form
+  mark_of : Mark → Form
+  line_end : Form
+  level_opens : Form
+  level_closes : Form
+  script_end : Form
 
--- a piece: what it is, how many bytes of its line stand before it, and its bytes
+-- a piece: what it is, its line, how many bytes of that line stand before it, and its bytes
 pub record Piece : Type 0 where
   pub form : Form
+  pub line : LineStart
   pub at : ℕ
   pub bytes : List ℕ
+
+-- what stands between the quotes of a text, and the text that it means
+pub data TextBytes : List ℕ → Text → Type 0 where
+  no_byte : TextBytes [] []
+  byte_itself : {byte : ℕ} {bytes : List ℕ} {text : Text} → is_text_byte byte ≡ true → TextBytes bytes text → TextBytes (byte ∷ bytes) (byte ∷ text)
+  quote_pair : {bytes : List ℕ} {text : Text} → TextBytes bytes text → TextBytes (92 ∷ 34 ∷ bytes) (34 ∷ text)
+  slash_pair : {bytes : List ℕ} {text : Text} → TextBytes bytes text → TextBytes (92 ∷ 92 ∷ bytes) (92 ∷ text)
+
+-- no sign of two bytes begins with this byte before these
+abbrev pub NoLongSign : ℕ → List ℕ → Type 0
+NoLongSign byte [] = Unit {0}
+NoLongSign byte (next ∷ rest) = long_sign byte next ≡ None
 
 -- the longest token at the front, and what follows it
 pub data Longest : List ℕ → List ℕ → Form → Type 0 where
   a_name : {byte : ℕ} {bytes rest : List ℕ} → is_letter byte ≡ true → Passes is_name_byte bytes → Stops is_name_byte rest
-      → is_word (byte ∷ bytes) ≡ false → Longest (byte ∷ bytes) rest name
+      → word_of (byte ∷ bytes) ≡ None → Longest (byte ∷ bytes) rest name
+  a_word : {byte : ℕ} {bytes rest : List ℕ} {mark : Mark} → is_letter byte ≡ true → Passes is_name_byte bytes → Stops is_name_byte rest
+      → word_of (byte ∷ bytes) ≡ Some mark → Longest (byte ∷ bytes) rest (mark_of mark)
   a_number : {byte : ℕ} {bytes rest : List ℕ} → is_digit byte ≡ true → Passes is_digit bytes → Stops is_digit rest
       → digits_value 10 (byte ∷ bytes) < 2 ^ 63 → Longest (byte ∷ bytes) rest number
-  open_paren : {rest : List ℕ} → Longest (40 ∷ []) rest (sign OpenParen)
-  close_paren : {rest : List ℕ} → Longest (41 ∷ []) rest (sign CloseParen)
-  open_brace : {rest : List ℕ} → Longest (123 ∷ []) rest (sign OpenBrace)
-  close_brace : {rest : List ℕ} → Longest (125 ∷ []) rest (sign CloseBrace)
-  dot : {rest : List ℕ} → Longest (46 ∷ []) rest (sign Dot)
-  plus : {rest : List ℕ} → Longest (43 ∷ []) rest (sign Plus)
-  assign : {rest : List ℕ} → Stops (λ byte. byte == 61) rest → Longest (61 ∷ []) rest (sign Assign)
+  a_text : {bytes rest : List ℕ} {text : Text} → TextBytes bytes text → Longest (34 ∷ (bytes ++ 34 ∷ [])) rest (text_of text)
+  a_short_sign : {byte : ℕ} {rest : List ℕ} {mark : Mark} → NoLongSign byte rest → short_sign byte ≡ Some mark → Longest (byte ∷ []) rest (mark_of mark)
+  a_long_sign : {byte next : ℕ} {rest : List ℕ} {mark : Mark} → long_sign byte next ≡ Some mark → Longest (byte ∷ next ∷ []) rest (mark_of mark)
 
--- the rest of a line, from a place on, and its pieces
-pub data RestSpells : ℕ → List ℕ → List Piece → Type 0 where
-  ended : {at : ℕ} → RestSpells at [] []
-  space : {at : ℕ} {rest : List ℕ} {pieces : List Piece} → RestSpells (at + 1) rest pieces → RestSpells at (32 ∷ rest) pieces
+-- the rest of a line, from a place on, and its pieces; a comment goes to its end
+pub data RestSpells (line : LineStart) : ℕ → List ℕ → List Piece → Type 0 where
+  ended : {at : ℕ} → RestSpells line at [] []
+  comment : {at : ℕ} {rest : List ℕ} → RestSpells line at (35 ∷ rest) []
+  space : {at : ℕ} {rest : List ℕ} {pieces : List Piece} → RestSpells line (at + 1) rest pieces → RestSpells line at (32 ∷ rest) pieces
   next : {at : ℕ} {word rest : List ℕ} {form : Form} {pieces : List Piece} → Longest word rest form
-      → RestSpells (at + length word) rest pieces → RestSpells at (word ++ rest) ((record { form = form; at = at; bytes = word }) ∷ pieces)
-
--- a line's first piece stands at its first byte
-abbrev pub StartsAtFront : List Piece → Type 0
-StartsAtFront [] = Unit {0}
-StartsAtFront (piece ∷ pieces) = piece.at ≡ 0
-
--- a line and its pieces, none where it has only spaces
-pub record LineSpells (line : List ℕ) (pieces : List Piece) : Type 0 where
-  pub spells : RestSpells 0 line pieces
-  pub starts : StartsAtFront pieces
+      → RestSpells line (at + length word) rest pieces
+      → RestSpells line at (word ++ rest) ((record { form = form; line = line; at = at; bytes = word }) ∷ pieces)

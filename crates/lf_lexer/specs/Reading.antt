@@ -1,39 +1,67 @@
--- Which tokens and texts a script spells, and where its first refusal is.
-use Rattle.std.specs.Prelude.{◌≡◌, ℕ, ◌+◌, List, ◌∷◌, ◌++◌, length}
-use Rattle.std.specs.List.{AllZip}
-use Rattle.lf_base.specs.declared.refusals.Refusal.{Refusal}
-use Rattle.lf_base.specs.declared.refusals.RefusalKind.TheVariants.{NotBuilt}
-use Rattle.lf_base.specs.declared.refusals.ReadFail.{ReadFail}
-use Rattle.lf_base.specs.declared.refusals.ReadFail.TheVariants as fail
-use Rattle.lf_base.specs.Lines.{lines}
+-- Which tokens and texts a script spells.
+use Rattle.std.specs.Prelude.{◌≡◌, ℕ, ◌+◌, ◌≤◌, true, false, List, [], ◌∷◌, ◌++◌, length, map}
 use Rattle.lf_base.specs.Texts.{Text}
 use Rattle.lf_lexer.specs.declared.tokens.Token.{Token}
-use Rattle.lf_lexer.specs.Pieces.{Piece, LineSpells}
-use Rattle.lf_lexer.specs.Tokens.{texts_of, tokens_from}
+use Rattle.lf_lexer.specs.declared.line_start.LineStart.{LineStart}
+use Rattle.lf_lexer.specs.Pieces.{Form, line_end, level_closes, script_end, Piece, RestSpells}
+use Rattle.lf_lexer.specs.SourceLines.{full_lines, content, indentation, is_blank}
+use Rattle.lf_lexer.specs.Levels.{Indents}
+use Rattle.lf_lexer.specs.Tokens.{texts_of, token_of}
+
+abbrev pub first_line : LineStart
+first_line = record { number = 1; start = 0 }
+
+-- the line behind this one
+abbrev pub line_behind : LineStart → List ℕ → LineStart
+line_behind line bytes = record { number = line.number + 1; start = line.start + length bytes }
+
+-- a piece without bytes
+abbrev pub empty_piece : LineStart → ℕ → Form → Piece
+empty_piece line at form = record { form = form; line = line; at = at; bytes = [] }
+
+-- where the last of these pieces ends
+abbrev pub end_of : ℕ → List Piece → ℕ
+end_of end [] = end
+end_of end (piece ∷ pieces) = end_of (piece.at + length piece.bytes) pieces
+
+-- the pieces of a line that isn't blank: its levels at its first token, its tokens, and its end behind the last one
+abbrev pub line_pieces : LineStart → ℕ → List Form → List Piece → List Piece
+line_pieces line indent levels pieces = map (empty_piece line indent) levels ++ (pieces ++ empty_piece line (end_of 0 pieces) line_end ∷ [])
+
+-- the end of a script of so many bytes, on the line after the last one that has a token; all levels close before it
+abbrev pub closing : ℕ → ℕ → List ℕ → List Piece
+closing size last [] = empty_piece (record { number = last + 1; start = size }) 0 script_end ∷ []
+closing size last (level ∷ levels) = empty_piece (record { number = last + 1; start = size }) 0 level_closes ∷ closing size last levels
+
+-- a line that isn't blank and its pieces, where the levels before it and after it are these
+pub record LineSpells (line : LineStart) (levels after : List ℕ) (bytes : List ℕ) (pieces : List Piece) : Type 0 where
+  pub filled : is_blank bytes ≡ false
+  pub forms : List Form
+  pub indents : Indents levels (indentation bytes) after forms
+  pub tokens : List Piece
+  pub spells : RestSpells line 0 bytes tokens
+  pub pieces_are : pieces ≡ line_pieces line (indentation bytes) forms tokens
+
+-- the lines from one on, of a script of so many bytes, and their pieces, where these levels stand and this is the number
+-- of the last line that has a token
+pub data LinesSpell (size : ℕ) : List ℕ → ℕ → LineStart → List (List ℕ) → List Piece → Type 0 where
+  no_line : {levels : List ℕ} {last : ℕ} {line : LineStart} → LinesSpell size levels last line [] (closing size last levels)
+  behind_blank : {levels : List ℕ} {last : ℕ} {line : LineStart} {bytes : List ℕ} {lines : List (List ℕ)} {others : List Piece}
+      → is_blank (content bytes) ≡ true → LinesSpell size levels last (line_behind line bytes) lines others
+      → LinesSpell size levels last line (bytes ∷ lines) others
+  behind_filled : {levels after : List ℕ} {last : ℕ} {line : LineStart} {bytes : List ℕ} {lines : List (List ℕ)} {pieces others : List Piece}
+      → LineSpells line levels after (content bytes) pieces → LinesSpell size after line.number (line_behind line bytes) lines others
+      → LinesSpell size levels last line (bytes ∷ lines) (pieces ++ others)
 
 -- these bytes spell these tokens and texts
 pub record Spells (bytes : List ℕ) (tokens : List Token) (texts : List Text) : Type 0 where
-  pub pieces : List (List Piece)
-  pub spelled : AllZip LineSpells (lines bytes) pieces
+  pub pieces : List Piece
+  pub spelled : LinesSpell (length bytes) [] 0 first_line (full_lines bytes) pieces
   pub texts_are : texts ≡ texts_of pieces
-  pub tokens_are : tokens ≡ tokens_from texts (length bytes) 1 0 0 (lines bytes) pieces
+  pub tokens_are : tokens ≡ map (token_of texts) pieces
 
--- no pieces spell this line
-abbrev pub NotSpelled : List ℕ → Type 0
-NotSpelled line = (pieces : List Piece) → ¬ LineSpells line pieces
-
--- the first line that no pieces spell is refused, at its first column
-pub record IsFirstRefusal (bytes : List ℕ) (refusal : Refusal) : Type 0 where
-  pub before : List (List ℕ)
-  pub line : List ℕ
-  pub after : List (List ℕ)
-  pub pieces : List (List Piece)
-  pub split : lines bytes ≡ before ++ line ∷ after
-  pub spelled : AllZip LineSpells before pieces
-  pub not_spelled : NotSpelled line
-  pub refusal_is : refusal ≡ record { kind = NotBuilt; place = record { line = length before + 1; column = 1 } }
-
--- what failing says of these bytes: want of memory may come at any
-abbrev pub FailsAs : List ℕ → ReadFail → Type 0
-FailsAs bytes (fail.Refused refusal) = IsFirstRefusal bytes refusal
-FailsAs bytes fail.OutOfMemory = Unit {0}
+-- some script that isn't too long spells these tokens and texts
+pub record AreSpelled (tokens : List Token) (texts : List Text) : Type 0 where
+  pub bytes : List ℕ
+  pub short : length bytes ≤ 1048576
+  pub spelled : Spells bytes tokens texts

@@ -1,35 +1,30 @@
-ghost use Rattle.std.specs.Prelude.{◌≡◌, ◌<◌, ◌≤◌, ◌^◌, length, map, ◌+◌, None, Some, nat_lt, pos, if◌then◌else◌};
-ghost use Rattle.std.specs.List.{list_any, prefix_len};
-ghost use Rattle.std.specs.Str.{bytes_eq};
-ghost use Rattle.std.specs.Str.Parse.{digits_value};
-ghost use Rattle.lf_lexer.specs.Bytes as bytes_spec;
-ghost use Rattle.lf_lexer.specs.Bytes.{Passes};
+ghost use Rattle.std.specs.Prelude.{◌≡◌, ◌+◌, length};
 ghost use Rattle.lf_lexer.specs.Front as spec;
 ghost use Rattle.lf_lexer.specs.FrontWithin.{TakesWithin};
 
+use crate::bytes::{digits_len, is_digit, is_letter, name_len, value};
+use crate::marks::{long_sign, short_sign, word_of};
+use crate::texts::{TextEnd, text_end};
 use crate::tokens::Mark;
+use lf_base::RefusalKind;
 
 /// What stands at the front of the rest of a line.
 #[derive(Clone, Copy, Debug, PartialEq, Eq)]
 pub enum Front {
-    /// The end of the line.
+    /// The end of the line, or a comment, which goes to it.
     End,
     Space,
     /// A name of so many bytes.
     Name(usize),
     /// A number, by its value, of so many bytes.
     Number(i64, usize),
-    /// A sign of one byte.
-    Sign(Mark),
-    /// What no piece begins with.
-    Bad,
+    /// A text with so many bytes between its quotes.
+    Text(usize),
+    /// A word or a sign of so many bytes.
+    Sign(Mark, usize),
+    /// What is refused, at the byte behind so many.
+    Refused(RefusalKind, usize),
 }
-
-/// The words of the language, which are no names.
-const WORDS: [&str; 17] = [
-    "and", "def", "drop", "elif", "else", "False", "if", "move", "None", "not", "or", "pass",
-    "return", "True", "when", "while", "with",
-];
 
 /// What stands at the front of these bytes, which are the rest of a line.
 #[tactic(auto, unfolding(crate::specs::Front::front))]
@@ -37,19 +32,16 @@ pub fn front_of(bytes: &[u8]) -> Front
     ensures front { result ≡ spec.front bytes.now }
     ensures within { TakesWithin (length bytes.now) result }
 {
-    match bytes {
-        [] => Front::End,
-        [byte, rest @ ..] => {
-            if *byte == b' ' {
-                Front::Space
-            } else if is_letter(*byte) {
-                name_front(bytes)
-            } else if is_digit(*byte) {
-                number_front(bytes)
-            } else {
-                sign_front(*byte, rest)
-            }
-        }
+    let [byte, rest @ ..] = bytes else {
+        return Front::End;
+    };
+    match *byte {
+        b' ' => Front::Space,
+        b'#' => Front::End,
+        b'"' => text_front(rest),
+        byte if is_letter(byte) => name_front(bytes),
+        byte if is_digit(byte) => number_front(bytes),
+        byte => sign_front(byte, rest),
     }
 }
 
@@ -59,10 +51,9 @@ fn name_front(bytes: &[u8]) -> Front
     ensures within { TakesWithin (length bytes.now) result }
 {
     let len = name_len(bytes);
-    if is_word(&bytes[..len]) {
-        Front::Bad
-    } else {
-        Front::Name(len)
+    match word_of(&bytes[..len]) {
+        Some(mark) => Front::Sign(mark, len),
+        None => Front::Name(len),
     }
 }
 
@@ -74,107 +65,32 @@ fn number_front(bytes: &[u8]) -> Front
     let len = digits_len(bytes);
     match value(&bytes[..len]) {
         Some(value) => Front::Number(value, len),
-        None => Front::Bad,
+        None => Front::Refused(RefusalKind::WideNumber, 0),
     }
 }
 
-#[tactic(auto, unfolding(crate::specs::Front::sign_front))]
+fn text_front(rest: &[u8]) -> Front
+    ensures front { result ≡ spec.text_front rest.now }
+    ensures within { TakesWithin (length rest.now + 1) result }
+{
+    match text_end(rest) {
+        TextEnd::Closed(len) => Front::Text(len),
+        TextEnd::Open => Front::Refused(RefusalKind::OpenText, 0),
+        TextEnd::Bad(at) => Front::Refused(RefusalKind::BadByte, at + 1),
+    }
+}
+
 fn sign_front(byte: u8, rest: &[u8]) -> Front
     ensures front { result ≡ spec.sign_front byte rest.now }
     ensures within { TakesWithin (length rest.now + 1) result }
 {
-    match byte {
-        b'(' => Front::Sign(Mark::OpenParen),
-        b')' => Front::Sign(Mark::CloseParen),
-        b'{' => Front::Sign(Mark::OpenBrace),
-        b'}' => Front::Sign(Mark::CloseBrace),
-        b'.' => Front::Sign(Mark::Dot),
-        b'+' => Front::Sign(Mark::Plus),
-        b'=' => assign_front(rest),
-        _ => Front::Bad,
-    }
-}
-
-fn assign_front(rest: &[u8]) -> Front
-    ensures front { result ≡ spec.assign_front rest.now }
-    ensures within { TakesWithin (length rest.now + 1) result }
-{
-    match rest {
-        [b'=', ..] => Front::Bad,
-        _ => Front::Sign(Mark::Assign),
-    }
-}
-
-fn is_digit(byte: u8) -> bool
-    ensures { result ≡ bytes_spec.is_digit byte }
-{
-    byte >= b'0' && byte <= b'9'
-}
-
-fn is_letter(byte: u8) -> bool
-    ensures { result ≡ bytes_spec.is_letter byte }
-{
-    (byte >= b'a' && byte <= b'z') || (byte >= b'A' && byte <= b'Z') || byte == b'_'
-}
-
-fn is_name_byte(byte: u8) -> bool
-    ensures { result ≡ bytes_spec.is_name_byte byte }
-{
-    is_letter(byte) || is_digit(byte)
-}
-
-fn is_word(name: &[u8]) -> bool
-    ensures { result ≡ bytes_spec.is_word name.now }
-{
-    is_among(name, &WORDS)
-}
-
-fn is_among(name: &[u8], words: &[&str]) -> bool
-    ensures { result ≡ list_any (bytes_eq name.now) (map (λ word. word.now) words.now) }
-{
-    for word in words {
-        if name == word.as_bytes() {
-            return true;
+    if let [next, ..] = rest {
+        if let Some(mark) = long_sign(byte, *next) {
+            return Front::Sign(mark, 2);
         }
     }
-    false
-}
-
-fn name_len(bytes: &[u8]) -> usize
-    ensures len { result ≡ prefix_len bytes_spec.is_name_byte bytes.now }
-    ensures within { result ≤ length bytes.now }
-{
-    for (i, byte) in bytes.iter().enumerate() {
-        if !is_name_byte(*byte) {
-            return i;
-        }
+    match short_sign(byte) {
+        Some(mark) => Front::Sign(mark, 1),
+        None => Front::Refused(RefusalKind::BadByte, 0),
     }
-    bytes.len()
-}
-
-fn digits_len(bytes: &[u8]) -> usize
-    ensures len { result ≡ prefix_len bytes_spec.is_digit bytes.now }
-    ensures within { result ≤ length bytes.now }
-{
-    for (i, byte) in bytes.iter().enumerate() {
-        if !is_digit(*byte) {
-            return i;
-        }
-    }
-    bytes.len()
-}
-
-/// The value of decimal digits, if it is below 2^63.
-fn value(digits: &[u8]) -> Option<i64>
-    requires { Passes bytes_spec.is_digit digits.now }
-    ensures { result ≡ (if nat_lt (digits_value 10 digits.now) (2 ^ 63) then Some (pos (digits_value 10 digits.now)) else None) }
-{
-    let mut value: u128 = 0;
-    for digit in digits {
-        value = 10 * value + u128::from(*digit - b'0');
-        if value > 9_223_372_036_854_775_807 {
-            return None;
-        }
-    }
-    Some(value as i64)
 }

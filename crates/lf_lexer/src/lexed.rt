@@ -1,22 +1,17 @@
 ghost use Rattle.std.specs.Prelude.{◌≡◌, ◌<◌, ◌+◌, ◌^◌, length, OnOk};
-ghost use Rattle.lf_lexer.specs.Lexing.{with_token, with_name, token_at, refusal_of};
+ghost use Rattle.lf_lexer.specs.Lexed.{with_token, with_name, with_quoted};
 
+use crate::line_start::LineStart;
+use crate::texts::meaning_of;
 use crate::tokens::{Lexeme, Token, Tokens};
-use lf_base::{OutOfMemory, Place, Refusal, RefusalKind, Texts};
+use lf_base::{OutOfMemory, Texts};
+use std::alloc::Global;
 
 /// The tokens of a script, and the texts that they name.
 #[derive(Drop)]
 pub struct Lexed {
     pub tokens: Tokens,
     pub texts: Texts,
-}
-
-/// Where a line begins: its number, counted from 1, and the place of its first
-/// byte in the script.
-#[derive(Clone, Copy, Debug, PartialEq, Eq)]
-pub struct LineStart {
-    pub number: u32,
-    pub start: u32,
 }
 
 impl Lexed {
@@ -38,35 +33,21 @@ impl Lexed {
         let id = self.texts.intern(name)?;
         self.push(line.token(at, Lexeme::Name(id), name.len() as u32))
     }
-}
 
-impl LineStart {
-    /// The token of this line whose first byte stands at `at` in it.
-    pub fn token(self, at: u32, lexeme: Lexeme, len: u32) -> Token
-        requires { self.start + at + len + 1 < 2 ^ 32 }
-        ensures { result ≡ token_at self at lexeme len }
+    /// Adds the token of a text with these bytes between its quotes, whose first
+    /// byte stands at `at` in its line.
+    pub fn push_quoted(
+        &mut self,
+        alloc: Global,
+        line: LineStart,
+        at: u32,
+        bytes: &[u8],
+    ) -> Result<(), OutOfMemory>
+        requires { line.start + at + length bytes.now + 3 < 2 ^ 32 }
+        ensures { OnOk result (self.new ≡ with_quoted line self.old at bytes.now) }
     {
-        Token {
-            lexeme,
-            place: Place {
-                line: self.number,
-                column: at + 1,
-            },
-            start: self.start + at,
-            end: self.start + at + len,
-        }
-    }
-
-    /// The refusal of this line.
-    pub fn refusal(self) -> Refusal
-        ensures { result ≡ refusal_of self.number }
-    {
-        Refusal {
-            kind: RefusalKind::NotBuilt,
-            place: Place {
-                line: self.number,
-                column: 1,
-            },
-        }
+        let text = meaning_of(alloc, bytes)?;
+        let id = self.texts.intern(text.as_slice())?;
+        self.push(line.token(at, Lexeme::Text(id), bytes.len() as u32 + 2))
     }
 }

@@ -1,18 +1,27 @@
 //! The lexer: from a script's bytes to its tokens and texts, or to its first refusal.
 //!
-//! It stands on `lf_base`. `lex` promises the tokens and texts that the script's
-//! bytes spell, line by line and each token as long as it can be, or the refusal
-//! of the first line that spells none. `laws` promises that a script has one such
-//! answer only.
+//! It stands on `lf_base`. `lex` promises the tokens, places, spans and texts that
+//! the script's bytes spell, or the first refusal of its bytes, with kind and place.
+//! `laws` promises that each list of bytes is spelled once or refused once, and never
+//! both, and says how the tokens of every script lie. `lex_first_form` is the lexer
+//! of the first form alone, and serves `run` until the whole language is read.
 #![tactic(auto)]
 
+mod bytes;
+pub mod first_form;
 mod front;
+mod indent;
 pub mod laws;
+mod levels;
 mod lexed;
 mod line;
+mod line_start;
+mod marks;
 mod script;
+mod texts;
 mod tokens;
 
+pub use first_form::script::lex_first_form;
 pub use lexed::Lexed;
 pub use script::lex;
 pub use tokens::{Lexeme, Mark, Token, Tokens};

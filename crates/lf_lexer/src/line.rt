@@ -1,27 +1,38 @@
 ghost use Rattle.std.specs.Prelude.{◌≡◌, ◌<◌, ◌≤◌, ◌+◌, ◌^◌, length, IfOk, IfErr, OnOk};
 ghost use Rattle.lf_lexer.specs.Front as spec;
-ghost use Rattle.lf_lexer.specs.Lexing.{begins_with_space, with_front, step_at, StepsWithin, LexesPieces, LexesLine, RefusesPieces, RefusesLine};
+ghost use Rattle.lf_lexer.specs.Lexing.{with_front, step_at, StepsWithin, Descend, LexesPieces, RefusesPieces, LexesLine, RefusesLine};
 
+use crate::bytes::{is_blank, spaces_len};
 use crate::front::{Front, front_of};
-use crate::lexed::{Lexed, LineStart};
+use crate::indent::lex_indent;
+use crate::levels::Levels;
+use crate::lexed::Lexed;
+use crate::line_start::LineStart;
 use crate::tokens::Lexeme;
-use lf_base::{OutOfMemory, ReadFail};
+use lf_base::{OutOfMemory, ReadFail, RefusalKind};
+use std::alloc::Global;
 
 /// What one step took from the front of a line's rest.
 #[derive(Clone, Copy, Debug, PartialEq, Eq)]
 pub enum Step {
-    /// Nothing: the line ends here.
+    /// Nothing: the line's tokens end here.
     End,
     Space,
-    /// A piece of so many bytes.
+    /// A token of so many bytes.
     Piece(usize),
-    /// Nothing: no piece begins here.
-    Bad,
+    /// Nothing: the byte behind so many is to blame.
+    Refused(RefusalKind, usize),
 }
 
 /// Adds the token at the front of the rest of a line, which begins at `at` in it.
 #[tactic(auto, unfolding(crate::specs::Lexing::with_front, crate::specs::Lexing::step_at))]
-fn one(lexed: &mut Lexed, line: LineStart, at: u32, rest: &[u8]) -> Result<Step, OutOfMemory>
+fn lex_step(
+    alloc: Global,
+    lexed: &mut Lexed,
+    line: LineStart,
+    at: u32,
+    rest: &[u8],
+) -> Result<Step, OutOfMemory>
     requires { line.start + at + length rest.now + 1 < 2 ^ 32 }
     ensures lexed { OnOk result (lexed.new ≡ with_front line lexed.old at rest.now (spec.front rest.now)) }
     ensures step { IfOk result (λ step. step ≡ step_at (spec.front rest.now)) }
@@ -38,17 +49,28 @@ fn one(lexed: &mut Lexed, line: LineStart, at: u32, rest: &[u8]) -> Result<Step,
             lexed.push(line.token(at, Lexeme::Number(value), len as u32))?;
             Ok(Step::Piece(len))
         }
-        Front::Sign(mark) => {
-            lexed.push(line.token(at, Lexeme::Mark(mark), 1))?;
-            Ok(Step::Piece(1))
+        Front::Text(len) => {
+            let (_, behind) = rest.split_at(1);
+            lexed.push_quoted(alloc, line, at, &behind[..len])?;
+            Ok(Step::Piece(len + 2))
         }
-        Front::Bad => Ok(Step::Bad),
+        Front::Sign(mark, len) => {
+            lexed.push(line.token(at, Lexeme::Mark(mark), len as u32))?;
+            Ok(Step::Piece(len))
+        }
+        Front::Refused(kind, offset) => Ok(Step::Refused(kind, offset)),
     }
 }
 
-/// Adds the tokens of a line, and answers where its last piece ends, or 0 where
-/// it has none. Refused exactly where no pieces spell the line.
-fn lex_pieces(lexed: &mut Lexed, line: LineStart, bytes: &[u8]) -> Result<u32, ReadFail>
+/// Adds the tokens of a line, and answers where the last one ends, or 0 where it
+/// has none. Refused exactly where no tokens spell the line, at the first byte that
+/// is to blame.
+fn lex_pieces(
+    alloc: Global,
+    lexed: &mut Lexed,
+    line: LineStart,
+    bytes: &[u8],
+) -> Result<u32, ReadFail>
     requires { line.start + length bytes.now + 1 < 2 ^ 32 }
     ensures lexed { IfOk result (λ end. LexesPieces line bytes.now lexed.old lexed.new end) }
     ensures within { IfOk result (λ end. end ≤ length bytes.now) }
@@ -58,7 +80,7 @@ fn lex_pieces(lexed: &mut Lexed, line: LineStart, bytes: &[u8]) -> Result<u32, R
     let mut at: u32 = 0;
     let mut end: u32 = 0;
     loop {
-        match one(lexed, line, at, rest)? {
+        match lex_step(alloc, lexed, line, at, rest)? {
             Step::End => return Ok(end),
             Step::Space => {
                 let (_, after) = rest.split_at(1);
@@ -71,31 +93,34 @@ fn lex_pieces(lexed: &mut Lexed, line: LineStart, bytes: &[u8]) -> Result<u32, R
                 at += len as u32;
                 end = at;
             }
-            Step::Bad => return Err(ReadFail::Refused(line.refusal())),
+            Step::Refused(kind, offset) => {
+                return Err(ReadFail::Refused(line.refusal(kind, at + offset as u32)));
+            }
         }
     }
 }
 
-/// Adds the tokens of a line with the one at its end, and answers whether it has
-/// any. Refused exactly where the line is not spelled.
-pub fn lex_line(lexed: &mut Lexed, line: LineStart, bytes: &[u8]) -> Result<bool, ReadFail>
-    requires { line.start + length bytes.now + 1 < 2 ^ 32 }
-    ensures lexed { IfOk result (λ has. LexesLine line bytes.now lexed.old lexed.new has) }
-    ensures refused { IfErr result (RefusesLine line bytes.now) }
+/// Adds the levels, the tokens and the end of a line, and answers whether it has
+/// any: a blank line has none. Refused exactly where the line is not spelled, first
+/// for its indentation and then for its first byte that is to blame.
+pub fn lex_line(
+    alloc: Global,
+    lexed: &mut Lexed,
+    levels: &mut Levels,
+    line: LineStart,
+    bytes: &[u8],
+) -> Result<bool, ReadFail>
+    requires short { line.start + length bytes.now + 1 < 2 ^ 32 }
+    requires descend { Descend levels.old }
+    ensures lexed { IfOk result (λ filled. LexesLine line bytes.now levels.old levels.new lexed.old lexed.new filled) }
+    ensures refused { IfErr result (RefusesLine line levels.old bytes.now) }
 {
-    let end = lex_pieces(lexed, line, bytes)?;
-    if end == 0 {
+    if is_blank(bytes) {
         return Ok(false);
     }
-    if begins_with_space(bytes) {
-        return Err(ReadFail::Refused(line.refusal()));
-    }
+    let indent = spaces_len(bytes) as u32;
+    lex_indent(lexed, levels, line, indent)?;
+    let end = lex_pieces(alloc, lexed, line, bytes)?;
     lexed.push(line.token(end, Lexeme::NewLine, 0))?;
     Ok(true)
-}
-
-fn begins_with_space(bytes: &[u8]) -> bool
-    ensures { result ≡ begins_with_space bytes.now }
-{
-    matches!(bytes, [b' ', ..])
 }

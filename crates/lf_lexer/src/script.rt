@@ -1,19 +1,23 @@
-ghost use Rattle.std.specs.Prelude.{◌≡◌, ◌<◌, ◌≤◌, ◌+◌, ◌^◌, ◌==◌, length, drop, not, IfOk, IfErr};
-ghost use Rattle.std.specs.List.{prefix_len};
-ghost use Rattle.lf_lexer.specs.Lexing.{StartsEmpty, LexesLines};
-ghost use Rattle.lf_lexer.specs.Tokens as spec;
-ghost use Rattle.lf_lexer.specs.Reading.{Spells, FailsAs};
+ghost use Rattle.std.specs.Prelude.{◌≡◌, ◌<◌, ◌≤◌, ◌+◌, ◌^◌, [], length, IfOk, IfErr};
+ghost use Rattle.lf_lexer.specs.Lexing.{LexesLines};
+ghost use Rattle.lf_lexer.specs.Reading.{Spells};
+ghost use Rattle.lf_lexer.specs.Refusals.{FailsAs};
 
-use crate::lexed::{Lexed, LineStart};
+use crate::bytes::{content_len, full_line_len};
+use crate::indent::close_script;
+use crate::levels::Levels;
+use crate::lexed::Lexed;
 use crate::line::lex_line;
-use crate::tokens::{Lexeme, Token, Tokens};
-use lf_base::{MOST_SCRIPT_BYTES, Place, ReadFail, Texts};
+use crate::line_start::LineStart;
+use crate::tokens::Tokens;
+use lf_base::{MOST_SCRIPT_BYTES, ReadFail, Texts};
 use std::alloc::Global;
 
 /// The tokens and texts of a script of at most `MOST_SCRIPT_BYTES`.
 ///
-/// `Refused` comes exactly where the tokens of the first form spell not every line,
-/// with the first column of the first such line. `OutOfMemory` is free.
+/// `Refused` comes exactly where the script's bytes spell no tokens, with the kind
+/// and the place of its first refusal: `BadByte`, `BadIndent`, `OpenText`,
+/// `WideNumber` or `TooDeepIndent`. `OutOfMemory` comes only where memory runs out.
 pub fn lex(alloc: Global, bytes: &[u8]) -> Result<Lexed, ReadFail>
     requires { length bytes.now ≤ MOST_SCRIPT_BYTES }
     ensures spelled { IfOk result (λ lexed. Spells bytes.now lexed.tokens lexed.texts) }
@@ -23,17 +27,23 @@ pub fn lex(alloc: Global, bytes: &[u8]) -> Result<Lexed, ReadFail>
         tokens: Tokens::new(alloc),
         texts: Texts::new(alloc)?,
     };
-    let last = lex_lines(&mut lexed, bytes)?;
-    lexed.push(end_token(bytes.len() as u32, last))?;
+    let mut levels = Levels::new(alloc);
+    let last = lex_lines(alloc, &mut lexed, &mut levels, bytes)?;
+    close_script(&mut lexed, &mut levels, bytes.len() as u32, last)?;
     Ok(lexed)
 }
 
 /// Adds the tokens of all lines, and answers the number of the last line that has
 /// a token, or 0 where none has one.
-fn lex_lines(lexed: &mut Lexed, bytes: &[u8]) -> Result<u32, ReadFail>
-    requires start { StartsEmpty lexed.old }
+fn lex_lines(
+    alloc: Global,
+    lexed: &mut Lexed,
+    levels: &mut Levels,
+    bytes: &[u8],
+) -> Result<u32, ReadFail>
+    requires start { levels.old ≡ [] }
     requires short { length bytes.now ≤ MOST_SCRIPT_BYTES }
-    ensures lexed { IfOk result (λ last. LexesLines bytes.now lexed.new last) }
+    ensures lexed { IfOk result (LexesLines bytes.now lexed.old lexed.new levels.new) }
     ensures within { IfOk result (λ last. last ≤ length bytes.now + 1) }
     ensures refused { IfErr result (FailsAs bytes.now) }
 {
@@ -44,54 +54,15 @@ fn lex_lines(lexed: &mut Lexed, bytes: &[u8]) -> Result<u32, ReadFail>
     };
     let mut last = 0;
     while !rest.is_empty() {
-        let len = line_len(rest);
-        let (here, after) = rest.split_at(len);
-        if lex_line(lexed, line, here)? {
+        let (here, behind) = rest.split_at(full_line_len(rest));
+        if lex_line(alloc, lexed, levels, line, &here[..content_len(here)])? {
             last = line.number;
         }
-        rest = behind_first(after);
+        rest = behind;
         line = LineStart {
             number: line.number + 1,
-            start: line.start + len as u32 + 1,
+            start: line.start + here.len() as u32,
         };
     }
     Ok(last)
-}
-
-/// The number of bytes before the first line feed.
-fn line_len(bytes: &[u8]) -> usize
-    ensures len { result ≡ prefix_len (λ byte. not (byte == 10)) bytes.now }
-    ensures within { result ≤ length bytes.now }
-{
-    for (i, byte) in bytes.iter().enumerate() {
-        if *byte == b'\n' {
-            return i;
-        }
-    }
-    bytes.len()
-}
-
-/// The bytes behind the first one.
-fn behind_first(bytes: &[u8]) -> &[u8]
-    ensures { result.now ≡ drop 1 bytes.now }
-{
-    match bytes {
-        [] => bytes,
-        [_, rest @ ..] => rest,
-    }
-}
-
-fn end_token(size: u32, last: u32) -> Token
-    requires { last + 1 < 2 ^ 32 }
-    ensures { result ≡ spec.end_token size last }
-{
-    Token {
-        lexeme: Lexeme::End,
-        place: Place {
-            line: last + 1,
-            column: 1,
-        },
-        start: size,
-        end: size,
-    }
 }

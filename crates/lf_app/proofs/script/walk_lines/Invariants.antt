@@ -1,6 +1,6 @@
 use Rattle.std.proofs.Common.{ℕ, List, length}
 use Rattle.lf_base.specs.Texts.{Text}
-use Rattle.lf_lexer.specs.Reading.{Spells}
+use Rattle.lf_lexer.specs.FirstForm.Reading.{Spells}
 use Rattle.lf_app.proofs.Ahead.{Ahead}
 use Rattle.lf_app.proofs.script.walk_lines.Given as goal
 

@@ -1,5 +1,5 @@
 use Rattle.lf_lexer.specs.Bytes.{is_digit}
-use Rattle.lf_lexer.proofs.Fronts.{passes_prefix}
+use Rattle.lf_lexer.proofs.Prefixes.{passes_prefix}
 use Rattle.lf_lexer.proofs.front.number_front.Goals as goal
 
 pub value-requires : goal.value-requires

@@ -1,5 +1,5 @@
-use Rattle.lf_lexer.proofs.SpelledOnce.{refused_once}
+use Rattle.lf_lexer.proofs.ScriptOutcomes.{refusal_once}
 use Rattle.lf_lexer.proofs.laws.scripts_are_refused_once.Goals as goal
 
 pub returns : goal.returns
-returns c = refused_once
+returns c = refusal_once

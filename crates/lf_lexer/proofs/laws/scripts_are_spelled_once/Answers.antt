@@ -1,8 +1,8 @@
-use Rattle.lf_lexer.proofs.SpelledOnce.{spelled_once}
+use Rattle.lf_lexer.proofs.ScriptOutcomes.{tokens_once, texts_once}
 use Rattle.lf_lexer.proofs.laws.scripts_are_spelled_once.Goals as goal
 
 pub returns-clause-tokens : goal.returns-clause-tokens
-returns-clause-tokens c bytes t t' x x' s s' = (spelled_once bytes t t' x x' s s').0
+returns-clause-tokens c = tokens_once
 
 pub returns-clause-texts : goal.returns-clause-texts
-returns-clause-texts c bytes t t' x x' s s' = (spelled_once bytes t t' x x' s s').1
+returns-clause-texts c = texts_once

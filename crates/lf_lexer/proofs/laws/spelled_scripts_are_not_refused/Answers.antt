@@ -1,5 +1,5 @@
-use Rattle.lf_lexer.proofs.SpelledOnce.{spelled_not_refused}
+use Rattle.lf_lexer.proofs.ScriptOutcomes.{never_both}
 use Rattle.lf_lexer.proofs.laws.spelled_scripts_are_not_refused.Goals as goal
 
 pub returns : goal.returns
-returns c = spelled_not_refused
+returns c = never_both

@@ -4,11 +4,10 @@ use Rattle.lf_lexer.proofs.script.lex_lines.Given as goal
 
 abbrev pub invariant-loop-rest : goal.invariant-loop-rest
 invariant-loop-rest l = record {
-  room : 0 < length l.rest → l.line.start + length l.rest ≡ length l.bytes;
-  start : l.line.start ≤ length l.bytes + 1;
+  room : l.line.start + length l.rest ≡ length l.bytes;
   number : l.line.number ≤ l.line.start + 1;
   last : l.last < l.line.number;
-  so_far : LinesSoFar l.bytes l.lexed l.line.number l.line.start l.last l.rest;
+  so_far : LinesSoFar l.bytes l.fn.lexed l.lexed l.levels l.last l.line l.rest;
 }
 
 abbrev pub decreases-loop-rest : goal.decreases-loop-rest
