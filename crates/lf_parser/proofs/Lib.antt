@@ -1,0 +1,16 @@
+pub mod Good
+pub mod Tokens
+pub mod Loops
+pub mod Samples
+pub mod Knowing
+pub mod ExpressionRules
+pub mod Levels
+pub mod FirstNames
+pub mod StatementRules
+pub mod ScriptRules
+pub mod Exact
+pub mod Parsed
+pub mod LawsOfTrees
+pub mod Steps
+pub mod Turns
+pub mod ReadableTokens

@@ -1,0 +1,10 @@
+use Rattle.std.proofs.Common.{◌≡◌, length, map}
+use Rattle.lf_parser.specs.Plain.{plain_expr}
+use Rattle.lf_parser.specs.Reading.{args_from, levels_left, sixteen}
+use Rattle.lf_parser.proofs.grammar.Grammar.args_from.Given as goal
+
+abbrev pub invariant-loop-cursor : goal.invariant-loop-cursor
+invariant-loop-cursor g l = args_from sixteen (levels_left sixteen l.self.levels) (map plain_expr l.fn.first) l.fn.cursor ≡ args_from sixteen (levels_left sixteen l.self.levels) (map plain_expr l.args) l.cursor
+
+abbrev pub decreases-loop-cursor : goal.decreases-loop-cursor
+decreases-loop-cursor g l = length l.cursor

@@ -1,0 +1,10 @@
+use Rattle.std.proofs.Common.{◌≡◌, length}
+use Rattle.lf_parser.specs.Plain.{plain_expr}
+use Rattle.lf_parser.specs.Reading.{expr_rest, levels_left, sixteen}
+use Rattle.lf_parser.proofs.grammar.Grammar.expr_rest.Given as goal
+
+abbrev pub invariant-loop-cursor : goal.invariant-loop-cursor
+invariant-loop-cursor g l = expr_rest sixteen (levels_left sixteen l.self.levels) (plain_expr l.fn.first) l.fn.cursor ≡ expr_rest sixteen (levels_left sixteen l.self.levels) (plain_expr l.left) l.cursor
+
+abbrev pub decreases-loop-cursor : goal.decreases-loop-cursor
+decreases-loop-cursor g l = length l.cursor

@@ -1,0 +1,5 @@
+use Rattle.lf_parser.proofs.ReadableTokens.{readable}
+use Rattle.lf_parser.proofs.laws.spelled_tokens_are_readable.Goals as goal
+
+pub returns : goal.returns
+returns c = readable

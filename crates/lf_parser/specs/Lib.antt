@@ -1,0 +1,12 @@
+pub mod Kinds
+pub mod Plain
+pub mod Words
+pub mod Forms
+pub mod Grammar
+pub mod Refusals
+pub mod Laws
+pub mod Parsers
+pub mod Reading
+pub mod Nests
+pub mod Blocks
+pub mod Trees

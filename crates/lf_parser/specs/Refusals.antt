@@ -1,0 +1,126 @@
+-- Which tree some tokens make, within the limits and without them, and which refusal is theirs.
+use Rattle.std.specs.Prelude.{◌≡◌, ◌<◌, ◌≤◌, ◌^◌, ℕ, suc, List, [], ◌∷◌, ◌++◌, length, Option, Some, None, ltb, if◌then◌else◌}
+use Rattle.lf_base.specs.declared.refusals.Refusal.{Refusal}
+use Rattle.lf_base.specs.declared.refusals.RefusalKind.{RefusalKind}
+use Rattle.lf_base.specs.declared.refusals.RefusalKind.TheVariants.{Unexpected, TooDeepExpr, TooManyParts}
+use Rattle.lf_base.specs.declared.refusals.ReadFail.{ReadFail}
+use Rattle.lf_base.specs.declared.refusals.ReadFail.TheVariants as fail
+use Rattle.lf_parser.specs.declared.halt.Cause.{Cause}
+use Rattle.lf_parser.specs.declared.halt.Cause.TheVariants as cause
+use Rattle.lf_lexer.specs.declared.tokens.Token.{Token}
+use Rattle.lf_lexer.specs.declared.tokens.Lexeme.{Lexeme}
+use Rattle.lf_lexer.specs.declared.tokens.Lexeme.TheVariants as lexeme
+use Rattle.lf_parser.specs.Kinds.{kind}
+use Rattle.lf_parser.specs.Plain.{PlainTree}
+use Rattle.lf_parser.specs.Forms.{Form, Begins}
+use Rattle.lf_parser.specs.Grammar.{Script}
+
+-- a script with blocks as deep as they are, and these limits on parts, `elif`s and levels
+abbrev pub Bounded : (ℕ → Type 0) → ℕ → ℕ → Form PlainTree
+Bounded Room elifs levels tokens tree = (nest : ℕ) × Script Room elifs levels nest tokens tree
+
+-- another part is allowed behind any number of them, and behind less than sixteen
+abbrev pub AnyCount : ℕ → Type 0
+AnyCount count = Unit {0}
+
+abbrev pub BelowSixteen : ℕ → Type 0
+BelowSixteen count = count < 16
+
+-- the tokens make this tree, limits aside
+abbrev pub Derives : Form PlainTree
+Derives tokens tree = (elifs : ℕ) × (levels : ℕ) × Bounded AnyCount elifs levels tokens tree
+
+-- the same with at most 64 levels
+abbrev pub WithinLevels : Form PlainTree
+WithinLevels tokens tree = (elifs : ℕ) × Bounded AnyCount elifs 64 tokens tree
+
+-- with at most 64 levels, 16 parts in each list, and 32 `elif`s in each chain
+abbrev pub WithinLimits : Form PlainTree
+WithinLimits = Bounded BelowSixteen 32 64
+
+-- how many tokens of its line have come, after one token more
+abbrev pub counted : ℕ → Lexeme → ℕ
+counted n lexeme.NewLine = 0
+counted n lexeme.Indent = n
+counted n lexeme.Dedent = n
+counted n _ = suc n
+
+-- how many tokens of the last line some tokens have, where n came before them
+abbrev pub count_on : ℕ → List Token → ℕ
+count_on n [] = n
+count_on n (t ∷ ts) = count_on (counted n t.lexeme) ts
+
+abbrev pub last_count : List Token → ℕ
+last_count tokens = count_on 0 tokens
+
+-- no line has more than 1,024 tokens
+abbrev pub LinesFit : List Token → Type 0
+LinesFit tokens = (before after : List Token) → tokens ≡ before ++ after → last_count before ≤ 1024
+
+-- the tokens make this tree, within the limits
+abbrev pub IsTree : List Token → PlainTree → Type 0
+IsTree tokens tree = WithinLimits tokens tree × LinesFit tokens
+
+-- the tokens, up to the refused one, that begin no script
+abbrev pub Why : RefusalKind → List Token → Type 0
+Why Unexpected tokens = ¬ Begins Derives tokens
+Why TooDeepExpr tokens = Begins Derives tokens × ¬ Begins WithinLevels tokens
+Why TooManyParts tokens = Begins WithinLevels tokens × ¬ (Begins WithinLimits tokens × LinesFit tokens)
+Why _ tokens = ⊥
+
+-- the first token with which the tokens begin no script within the limits, and why
+pub record IsRefusal (tokens : List Token) (refusal : Refusal) : Type 0 where
+  pub before : List Token
+  pub token : Token
+  pub after : List Token
+  pub split : tokens ≡ before ++ token ∷ after
+  pub place_is : refusal.place ≡ token.place
+  pub begins : Begins WithinLimits before × LinesFit before
+  pub why : Why refusal.kind (before ++ token ∷ [])
+
+-- the last token is the end, and no other one is
+abbrev pub EndsOnce : List Token → Type 0
+EndsOnce [] = ⊥
+EndsOnce (t ∷ []) = kind (Some t) ≡ 0
+EndsOnce (t ∷ ts) = (1 ≤ kind (Some t)) × EndsOnce ts
+
+-- what a refusal by the grammar says of the tokens, up to the refused one
+abbrev pub WhyCause : Cause → List Token → Type 0
+WhyCause cause.Unexpected tokens = ¬ Begins Derives tokens
+WhyCause cause.TooDeep tokens = Begins Derives tokens × ¬ Begins WithinLevels tokens
+WhyCause cause.TooMany tokens = Begins WithinLevels tokens × ¬ Begins WithinLimits tokens
+
+-- the kind of a refusal by the grammar
+abbrev pub kind_of : Cause → RefusalKind
+kind_of cause.Unexpected = Unexpected
+kind_of cause.TooDeep = TooDeepExpr
+kind_of cause.TooMany = TooManyParts
+
+-- the grammar's refusal, at the first of the tokens left
+pub record Stops (tokens : List Token) (c : Cause) (left : List Token) : Type 0 where
+  pub before : List Token
+  pub token : Token
+  pub after : List Token
+  pub left_is : left ≡ token ∷ after
+  pub split : tokens ≡ before ++ left
+  pub begins : Begins WithinLimits before
+  pub why : WhyCause c (before ++ token ∷ [])
+
+-- the first token that is one too many on its line, where n came before them
+abbrev pub past_line : ℕ → List Token → Option Token
+past_line n [] = None
+past_line n (t ∷ ts) = if ltb 1024 (counted n t.lexeme) then Some t else past_line (counted n t.lexeme) ts
+
+-- what `parse` needs of the tokens
+pub record Readable (tokens : List Token) : Type 0 where
+  pub ends : EndsOnce tokens
+  pub few : length tokens < 2 ^ 32
+
+-- what failing says of these tokens: want of memory may come at any
+abbrev pub FailsAs : List Token → ReadFail → Type 0
+FailsAs tokens (fail.Refused refusal) = IsRefusal tokens refusal
+FailsAs tokens fail.OutOfMemory = Unit {0}
+
+-- the refusal of a token that is one too many
+abbrev pub too_many : Token → Refusal
+too_many token = record { kind = TooManyParts; place = token.place }

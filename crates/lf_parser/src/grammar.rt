@@ -1,0 +1,565 @@
+//! The rules of expressions. A rule that goes a level deeper calls a function
+//! that it is handed, so that each is proved by itself.
+
+ghost use Rattle.std.specs.Prelude.{◌≡◌, ◌-◌, map};
+ghost use Rattle.lf_parser.specs.Nests.{Nests, rule};
+ghost use Rattle.lf_parser.specs.Parsers.{Reads};
+ghost use Rattle.lf_parser.specs.Plain.{plain_expr};
+ghost use Rattle.lf_parser.specs.Reading as spec;
+ghost use Rattle.lf_parser.specs.Reading.{sixteen, levels_left};
+
+use crate::cursor::Cursor;
+use crate::expr::{Expr, Exprs};
+use crate::halt::{Cause, Halt};
+use crate::lists::with;
+use crate::name::Name;
+use crate::nodes::{and, binary, field, moved, neg, not, or};
+use lf_lexer::{Mark, Token};
+use std::alloc::Global;
+
+/// The levels of operators that join two operands, the loosest first.
+#[derive(Clone, Copy, Debug, PartialEq, Eq)]
+pub enum Level {
+    Compare,
+    Sum,
+    Term,
+}
+
+/// The rules that are asked for one level deeper.
+#[derive(Clone, Copy, Debug, PartialEq, Eq)]
+pub enum Entry {
+    WholeExpr,
+    OneUnary,
+    OneNeg,
+}
+
+/// The rules of expressions, where so many levels may still be opened.
+#[derive(Clone, Copy)]
+pub struct Grammar<F> {
+    pub alloc: Global,
+    pub levels: usize,
+    pub deeper: F,
+}
+
+impl<F: Fn(Global, &mut Cursor<'_>, usize, Entry) -> Result<Expr, Halt>> Grammar<F> {
+    /// Takes a token that opens a level.
+    fn opening(&self, cursor: &mut Cursor<'_>, mark: Mark) -> Result<Token, Halt>
+        ensures { Reads (λ t. t) (spec.opening sixteen (levels_left sixteen self.now.levels) mark cursor.old) result cursor.new }
+    {
+        cursor.allow(mark, self.levels > 0, Cause::TooDeep)
+    }
+
+    /// Reads an expression one level deeper.
+    #[tactic(auto, unfolding(crate::specs::Reading::levels_left))]
+    fn inner(&self, cursor: &mut Cursor<'_>) -> Result<Expr, Halt>
+        requires { Nests (F.pre self.now.deeper) (F.post self.now.deeper) self.now.levels }
+        ensures { Reads plain_expr ((levels_left sixteen self.now.levels).expr cursor.old) result cursor.new }
+    {
+        if self.levels == 0 {
+            return Err(Halt::Refused(Cause::TooDeep));
+        }
+        (self.deeper)(self.alloc, cursor, self.levels - 1, Entry::WholeExpr)
+    }
+
+    /// Reads an operand of `*` one level deeper.
+    #[tactic(auto, unfolding(crate::specs::Reading::levels_left))]
+    fn inner_unary(&self, cursor: &mut Cursor<'_>) -> Result<Expr, Halt>
+        requires { Nests (F.pre self.now.deeper) (F.post self.now.deeper) self.now.levels }
+        ensures { Reads plain_expr ((levels_left sixteen self.now.levels).unary cursor.old) result cursor.new }
+    {
+        if self.levels == 0 {
+            return Err(Halt::Refused(Cause::TooDeep));
+        }
+        (self.deeper)(self.alloc, cursor, self.levels - 1, Entry::OneUnary)
+    }
+
+    /// Reads an operand of `and` one level deeper.
+    #[tactic(auto, unfolding(crate::specs::Reading::levels_left))]
+    fn inner_neg(&self, cursor: &mut Cursor<'_>) -> Result<Expr, Halt>
+        requires { Nests (F.pre self.now.deeper) (F.post self.now.deeper) self.now.levels }
+        ensures { Reads plain_expr ((levels_left sixteen self.now.levels).neg cursor.old) result cursor.new }
+    {
+        if self.levels == 0 {
+            return Err(Halt::Refused(Cause::TooDeep));
+        }
+        (self.deeper)(self.alloc, cursor, self.levels - 1, Entry::OneNeg)
+    }
+
+    /// `.` and a name, behind what it is a field of.
+    #[tactic(auto, unfolding(crate::specs::Reading::field))]
+    fn field(&self, cursor: &mut Cursor<'_>, target: Expr) -> Result<Expr, Halt>
+        ensures { Reads plain_expr (spec.field sixteen (levels_left sixteen self.now.levels) (plain_expr target) cursor.old) result cursor.new }
+    {
+        cursor.sign(Mark::Dot)?;
+        let name = cursor.name()?;
+        Ok(field(self.alloc, target, Expr::Text(name.id))?)
+    }
+
+    /// A key in square brackets, behind what it is a field of.
+    #[tactic(auto, unfolding(crate::specs::Reading::entry))]
+    fn entry(&self, cursor: &mut Cursor<'_>, target: Expr) -> Result<Expr, Halt>
+        requires { Nests (F.pre self.now.deeper) (F.post self.now.deeper) self.now.levels }
+        ensures { Reads plain_expr (spec.entry sixteen (levels_left sixteen self.now.levels) (plain_expr target) cursor.old) result cursor.new }
+    {
+        self.opening(cursor, Mark::OpenSquare)?;
+        let key = self.inner(cursor)?;
+        cursor.sign(Mark::CloseSquare)?;
+        Ok(field(self.alloc, target, key)?)
+    }
+
+    #[tactic(auto, unfolding(crate::specs::Reading::suffix))]
+    fn suffix(&self, cursor: &mut Cursor<'_>, target: Expr) -> Result<Expr, Halt>
+        requires { Nests (F.pre self.now.deeper) (F.post self.now.deeper) self.now.levels }
+        ensures { Reads plain_expr (spec.suffix sixteen (levels_left sixteen self.now.levels) (plain_expr target) cursor.old) result cursor.new }
+    {
+        if cursor.is_mark(Mark::Dot) {
+            self.field(cursor, target)
+        } else {
+            self.entry(cursor, target)
+        }
+    }
+
+    /// All suffixes behind an operand.
+    #[tactic(auto)]
+    pub fn suffixes(&self, cursor: &mut Cursor<'_>, first: Expr) -> Result<Expr, Halt>
+        requires { Nests (F.pre self.now.deeper) (F.post self.now.deeper) self.now.levels }
+        ensures { Reads plain_expr (spec.suffixes sixteen (levels_left sixteen self.now.levels) (plain_expr first) cursor.old) result cursor.new }
+    {
+        let mut whole = first;
+        while cursor.is_suffix() {
+            whole = self.suffix(cursor, whole)?;
+        }
+        Ok(whole)
+    }
+
+    /// A place: a name with its suffixes.
+    #[tactic(auto, unfolding(crate::specs::Reading::spot))]
+    fn spot(&self, cursor: &mut Cursor<'_>) -> Result<Expr, Halt>
+        requires { Nests (F.pre self.now.deeper) (F.post self.now.deeper) self.now.levels }
+        ensures { Reads plain_expr (spec.spot sixteen (levels_left sixteen self.now.levels) cursor.old) result cursor.new }
+    {
+        let name = cursor.name()?;
+        self.suffixes(cursor, Expr::Var(name))
+    }
+
+    #[tactic(auto, unfolding(crate::specs::Reading::more_arg))]
+    fn more_arg(&self, cursor: &mut Cursor<'_>, args: Exprs) -> Result<Exprs, Halt>
+        requires { Nests (F.pre self.now.deeper) (F.post self.now.deeper) self.now.levels }
+        ensures { Reads (map plain_expr) (spec.more_arg sixteen (levels_left sixteen self.now.levels) (map plain_expr args) cursor.old) result cursor.new }
+    {
+        cursor.separator(args.len())?;
+        let arg = self.inner(cursor)?;
+        with(args, arg)
+    }
+
+    #[tactic(auto)]
+    fn args_from(&self, cursor: &mut Cursor<'_>, first: Exprs) -> Result<Exprs, Halt>
+        requires { Nests (F.pre self.now.deeper) (F.post self.now.deeper) self.now.levels }
+        ensures { Reads (map plain_expr) (spec.args_from sixteen (levels_left sixteen self.now.levels) (map plain_expr first) cursor.old) result cursor.new }
+    {
+        let mut args = first;
+        while cursor.is_mark(Mark::Comma) {
+            args = self.more_arg(cursor, args)?;
+        }
+        Ok(args)
+    }
+
+    #[tactic(auto, unfolding(crate::specs::Reading::first_args))]
+    fn first_args(&self, cursor: &mut Cursor<'_>) -> Result<Exprs, Halt>
+        requires { Nests (F.pre self.now.deeper) (F.post self.now.deeper) self.now.levels }
+        ensures { Reads (map plain_expr) (spec.first_args sixteen (levels_left sixteen self.now.levels) cursor.old) result cursor.new }
+    {
+        let arg = self.inner(cursor)?;
+        let args = with(Exprs::new(self.alloc), arg)?;
+        self.args_from(cursor, args)
+    }
+
+    #[tactic(auto, unfolding(crate::specs::Reading::some_args))]
+    fn some_args(&self, cursor: &mut Cursor<'_>) -> Result<Exprs, Halt>
+        requires { Nests (F.pre self.now.deeper) (F.post self.now.deeper) self.now.levels }
+        ensures { Reads (map plain_expr) (spec.some_args sixteen (levels_left sixteen self.now.levels) cursor.old) result cursor.new }
+    {
+        if cursor.is_mark(Mark::CloseParen) {
+            return Ok(Exprs::new(self.alloc));
+        }
+        self.first_args(cursor)
+    }
+
+    /// The arguments of a call, in their parentheses.
+    #[tactic(auto, unfolding(crate::specs::Reading::arguments))]
+    fn arguments(&self, cursor: &mut Cursor<'_>) -> Result<Exprs, Halt>
+        requires { Nests (F.pre self.now.deeper) (F.post self.now.deeper) self.now.levels }
+        ensures { Reads (map plain_expr) (spec.arguments sixteen (levels_left sixteen self.now.levels) cursor.old) result cursor.new }
+    {
+        self.opening(cursor, Mark::OpenParen)?;
+        let args = self.some_args(cursor)?;
+        cursor.sign(Mark::CloseParen)?;
+        Ok(args)
+    }
+
+    /// A call, behind its name.
+    #[tactic(auto, unfolding(crate::specs::Reading::call))]
+    pub fn call(&self, cursor: &mut Cursor<'_>, name: Name) -> Result<Expr, Halt>
+        requires { Nests (F.pre self.now.deeper) (F.post self.now.deeper) self.now.levels }
+        ensures { Reads plain_expr (spec.call sixteen (levels_left sixteen self.now.levels) name cursor.old) result cursor.new }
+    {
+        let args = self.arguments(cursor)?;
+        Ok(Expr::Call { name, args })
+    }
+
+    #[tactic(auto, unfolding(crate::specs::Reading::behind_name))]
+    fn behind_name(&self, cursor: &mut Cursor<'_>, name: Name) -> Result<Expr, Halt>
+        requires { Nests (F.pre self.now.deeper) (F.post self.now.deeper) self.now.levels }
+        ensures { Reads plain_expr (spec.behind_name sixteen (levels_left sixteen self.now.levels) name cursor.old) result cursor.new }
+    {
+        if cursor.is_mark(Mark::OpenParen) {
+            return self.call(cursor, name);
+        }
+        Ok(Expr::Var(name))
+    }
+
+    #[tactic(auto, unfolding(crate::specs::Reading::named))]
+    fn named(&self, cursor: &mut Cursor<'_>) -> Result<Expr, Halt>
+        requires { Nests (F.pre self.now.deeper) (F.post self.now.deeper) self.now.levels }
+        ensures { Reads plain_expr (spec.named sixteen (levels_left sixteen self.now.levels) cursor.old) result cursor.new }
+    {
+        let name = cursor.name()?;
+        self.behind_name(cursor, name)
+    }
+
+    #[tactic(auto, unfolding(crate::specs::Reading::group))]
+    fn group(&self, cursor: &mut Cursor<'_>) -> Result<Expr, Halt>
+        requires { Nests (F.pre self.now.deeper) (F.post self.now.deeper) self.now.levels }
+        ensures { Reads plain_expr (spec.group sixteen (levels_left sixteen self.now.levels) cursor.old) result cursor.new }
+    {
+        self.opening(cursor, Mark::OpenParen)?;
+        let inside = self.inner(cursor)?;
+        cursor.sign(Mark::CloseParen)?;
+        Ok(inside)
+    }
+
+    #[tactic(auto, unfolding(crate::specs::Reading::empty))]
+    fn empty(&self, cursor: &mut Cursor<'_>) -> Result<Expr, Halt>
+        ensures { Reads plain_expr (spec.empty sixteen (levels_left sixteen self.now.levels) cursor.old) result cursor.new }
+    {
+        cursor.sign(Mark::OpenBrace)?;
+        cursor.sign(Mark::CloseBrace)?;
+        Ok(Expr::Object)
+    }
+
+    #[tactic(auto, unfolding(crate::specs::Reading::atom))]
+    fn atom(&self, cursor: &mut Cursor<'_>) -> Result<Expr, Halt>
+        requires { Nests (F.pre self.now.deeper) (F.post self.now.deeper) self.now.levels }
+        ensures { Reads plain_expr (spec.atom sixteen (levels_left sixteen self.now.levels) cursor.old) result cursor.new }
+    {
+        if cursor.is_name() {
+            return self.named(cursor);
+        }
+        if cursor.is_mark(Mark::OpenParen) {
+            return self.group(cursor);
+        }
+        if cursor.is_mark(Mark::OpenBrace) {
+            return self.empty(cursor);
+        }
+        cursor.literal()
+    }
+
+    #[tactic(auto, unfolding(crate::specs::Reading::post))]
+    fn post(&self, cursor: &mut Cursor<'_>) -> Result<Expr, Halt>
+        requires { Nests (F.pre self.now.deeper) (F.post self.now.deeper) self.now.levels }
+        ensures { Reads plain_expr (spec.post sixteen (levels_left sixteen self.now.levels) cursor.old) result cursor.new }
+    {
+        let first = self.atom(cursor)?;
+        self.suffixes(cursor, first)
+    }
+
+    #[tactic(auto, unfolding(crate::specs::Reading::negated))]
+    fn negated(&self, cursor: &mut Cursor<'_>) -> Result<Expr, Halt>
+        requires { Nests (F.pre self.now.deeper) (F.post self.now.deeper) self.now.levels }
+        ensures { Reads plain_expr (spec.negated sixteen (levels_left sixteen self.now.levels) cursor.old) result cursor.new }
+    {
+        self.opening(cursor, Mark::Minus)?;
+        let operand = self.inner_unary(cursor)?;
+        Ok(neg(self.alloc, operand)?)
+    }
+
+    #[tactic(auto, unfolding(crate::specs::Reading::move_of))]
+    fn move_of(&self, cursor: &mut Cursor<'_>) -> Result<Expr, Halt>
+        requires { Nests (F.pre self.now.deeper) (F.post self.now.deeper) self.now.levels }
+        ensures { Reads plain_expr (spec.move_of sixteen (levels_left sixteen self.now.levels) cursor.old) result cursor.new }
+    {
+        cursor.sign(Mark::Move)?;
+        let place = self.spot(cursor)?;
+        Ok(moved(place))
+    }
+
+    #[tactic(auto, unfolding(crate::specs::Reading::unary))]
+    pub fn unary(&self, cursor: &mut Cursor<'_>) -> Result<Expr, Halt>
+        requires { Nests (F.pre self.now.deeper) (F.post self.now.deeper) self.now.levels }
+        ensures { Reads plain_expr (spec.unary sixteen (levels_left sixteen self.now.levels) cursor.old) result cursor.new }
+    {
+        if cursor.is_mark(Mark::Minus) {
+            return self.negated(cursor);
+        }
+        if cursor.is_mark(Mark::Move) {
+            return self.move_of(cursor);
+        }
+        self.post(cursor)
+    }
+
+    #[tactic(auto, unfolding(crate::specs::Reading::times))]
+    fn times(&self, cursor: &mut Cursor<'_>, left: Expr) -> Result<Expr, Halt>
+        requires { Nests (F.pre self.now.deeper) (F.post self.now.deeper) self.now.levels }
+        ensures { Reads plain_expr (spec.times sixteen (levels_left sixteen self.now.levels) (plain_expr left) cursor.old) result cursor.new }
+    {
+        let op = cursor.operator(Level::Term)?;
+        let right = self.unary(cursor)?;
+        Ok(binary(self.alloc, op, left, right)?)
+    }
+
+    #[tactic(auto)]
+    fn term_rest(&self, cursor: &mut Cursor<'_>, first: Expr) -> Result<Expr, Halt>
+        requires { Nests (F.pre self.now.deeper) (F.post self.now.deeper) self.now.levels }
+        ensures { Reads plain_expr (spec.term_rest sixteen (levels_left sixteen self.now.levels) (plain_expr first) cursor.old) result cursor.new }
+    {
+        let mut left = first;
+        while cursor.joins(Level::Term) {
+            left = self.times(cursor, left)?;
+        }
+        Ok(left)
+    }
+
+    #[tactic(auto, unfolding(crate::specs::Reading::term))]
+    fn term(&self, cursor: &mut Cursor<'_>) -> Result<Expr, Halt>
+        requires { Nests (F.pre self.now.deeper) (F.post self.now.deeper) self.now.levels }
+        ensures { Reads plain_expr (spec.term sixteen (levels_left sixteen self.now.levels) cursor.old) result cursor.new }
+    {
+        let first = self.unary(cursor)?;
+        self.term_rest(cursor, first)
+    }
+
+    #[tactic(auto, unfolding(crate::specs::Reading::plus))]
+    fn plus(&self, cursor: &mut Cursor<'_>, left: Expr) -> Result<Expr, Halt>
+        requires { Nests (F.pre self.now.deeper) (F.post self.now.deeper) self.now.levels }
+        ensures { Reads plain_expr (spec.plus sixteen (levels_left sixteen self.now.levels) (plain_expr left) cursor.old) result cursor.new }
+    {
+        let op = cursor.operator(Level::Sum)?;
+        let right = self.term(cursor)?;
+        Ok(binary(self.alloc, op, left, right)?)
+    }
+
+    #[tactic(auto)]
+    fn sum_rest(&self, cursor: &mut Cursor<'_>, first: Expr) -> Result<Expr, Halt>
+        requires { Nests (F.pre self.now.deeper) (F.post self.now.deeper) self.now.levels }
+        ensures { Reads plain_expr (spec.sum_rest sixteen (levels_left sixteen self.now.levels) (plain_expr first) cursor.old) result cursor.new }
+    {
+        let mut left = first;
+        while cursor.joins(Level::Sum) {
+            left = self.plus(cursor, left)?;
+        }
+        Ok(left)
+    }
+
+    #[tactic(auto, unfolding(crate::specs::Reading::sum))]
+    fn sum(&self, cursor: &mut Cursor<'_>) -> Result<Expr, Halt>
+        requires { Nests (F.pre self.now.deeper) (F.post self.now.deeper) self.now.levels }
+        ensures { Reads plain_expr (spec.sum sixteen (levels_left sixteen self.now.levels) cursor.old) result cursor.new }
+    {
+        let first = self.term(cursor)?;
+        self.sum_rest(cursor, first)
+    }
+
+    #[tactic(auto, unfolding(crate::specs::Reading::compared))]
+    fn compared(&self, cursor: &mut Cursor<'_>, left: Expr) -> Result<Expr, Halt>
+        requires { Nests (F.pre self.now.deeper) (F.post self.now.deeper) self.now.levels }
+        ensures { Reads plain_expr (spec.compared sixteen (levels_left sixteen self.now.levels) (plain_expr left) cursor.old) result cursor.new }
+    {
+        let op = cursor.operator(Level::Compare)?;
+        let right = self.sum(cursor)?;
+        Ok(binary(self.alloc, op, left, right)?)
+    }
+
+    #[tactic(auto, unfolding(crate::specs::Reading::cmp_rest))]
+    fn cmp_rest(&self, cursor: &mut Cursor<'_>, left: Expr) -> Result<Expr, Halt>
+        requires { Nests (F.pre self.now.deeper) (F.post self.now.deeper) self.now.levels }
+        ensures { Reads plain_expr (spec.cmp_rest sixteen (levels_left sixteen self.now.levels) (plain_expr left) cursor.old) result cursor.new }
+    {
+        if cursor.joins(Level::Compare) {
+            return self.compared(cursor, left);
+        }
+        Ok(left)
+    }
+
+    #[tactic(auto, unfolding(crate::specs::Reading::cmp))]
+    fn cmp(&self, cursor: &mut Cursor<'_>) -> Result<Expr, Halt>
+        requires { Nests (F.pre self.now.deeper) (F.post self.now.deeper) self.now.levels }
+        ensures { Reads plain_expr (spec.cmp sixteen (levels_left sixteen self.now.levels) cursor.old) result cursor.new }
+    {
+        let first = self.sum(cursor)?;
+        self.cmp_rest(cursor, first)
+    }
+
+    #[tactic(auto, unfolding(crate::specs::Reading::denied))]
+    fn denied(&self, cursor: &mut Cursor<'_>) -> Result<Expr, Halt>
+        requires { Nests (F.pre self.now.deeper) (F.post self.now.deeper) self.now.levels }
+        ensures { Reads plain_expr (spec.denied sixteen (levels_left sixteen self.now.levels) cursor.old) result cursor.new }
+    {
+        self.opening(cursor, Mark::Not)?;
+        let operand = self.inner_neg(cursor)?;
+        Ok(not(self.alloc, operand)?)
+    }
+
+    #[tactic(auto, unfolding(crate::specs::Reading::neg))]
+    pub fn neg(&self, cursor: &mut Cursor<'_>) -> Result<Expr, Halt>
+        requires { Nests (F.pre self.now.deeper) (F.post self.now.deeper) self.now.levels }
+        ensures { Reads plain_expr (spec.neg sixteen (levels_left sixteen self.now.levels) cursor.old) result cursor.new }
+    {
+        if cursor.is_mark(Mark::Not) {
+            return self.denied(cursor);
+        }
+        self.cmp(cursor)
+    }
+
+    #[tactic(auto, unfolding(crate::specs::Reading::and_neg))]
+    fn and_neg(&self, cursor: &mut Cursor<'_>, left: Expr) -> Result<Expr, Halt>
+        requires { Nests (F.pre self.now.deeper) (F.post self.now.deeper) self.now.levels }
+        ensures { Reads plain_expr (spec.and_neg sixteen (levels_left sixteen self.now.levels) (plain_expr left) cursor.old) result cursor.new }
+    {
+        cursor.sign(Mark::And)?;
+        let right = self.neg(cursor)?;
+        Ok(and(self.alloc, left, right)?)
+    }
+
+    #[tactic(auto)]
+    fn both_rest(&self, cursor: &mut Cursor<'_>, first: Expr) -> Result<Expr, Halt>
+        requires { Nests (F.pre self.now.deeper) (F.post self.now.deeper) self.now.levels }
+        ensures { Reads plain_expr (spec.both_rest sixteen (levels_left sixteen self.now.levels) (plain_expr first) cursor.old) result cursor.new }
+    {
+        let mut left = first;
+        while cursor.is_mark(Mark::And) {
+            left = self.and_neg(cursor, left)?;
+        }
+        Ok(left)
+    }
+
+    #[tactic(auto, unfolding(crate::specs::Reading::both))]
+    fn both(&self, cursor: &mut Cursor<'_>) -> Result<Expr, Halt>
+        requires { Nests (F.pre self.now.deeper) (F.post self.now.deeper) self.now.levels }
+        ensures { Reads plain_expr (spec.both sixteen (levels_left sixteen self.now.levels) cursor.old) result cursor.new }
+    {
+        let first = self.neg(cursor)?;
+        self.both_rest(cursor, first)
+    }
+
+    #[tactic(auto, unfolding(crate::specs::Reading::or_both))]
+    fn or_both(&self, cursor: &mut Cursor<'_>, left: Expr) -> Result<Expr, Halt>
+        requires { Nests (F.pre self.now.deeper) (F.post self.now.deeper) self.now.levels }
+        ensures { Reads plain_expr (spec.or_both sixteen (levels_left sixteen self.now.levels) (plain_expr left) cursor.old) result cursor.new }
+    {
+        cursor.sign(Mark::Or)?;
+        let right = self.both(cursor)?;
+        Ok(or(self.alloc, left, right)?)
+    }
+
+    #[tactic(auto)]
+    pub fn expr_rest(&self, cursor: &mut Cursor<'_>, first: Expr) -> Result<Expr, Halt>
+        requires { Nests (F.pre self.now.deeper) (F.post self.now.deeper) self.now.levels }
+        ensures { Reads plain_expr (spec.expr_rest sixteen (levels_left sixteen self.now.levels) (plain_expr first) cursor.old) result cursor.new }
+    {
+        let mut left = first;
+        while cursor.is_mark(Mark::Or) {
+            left = self.or_both(cursor, left)?;
+        }
+        Ok(left)
+    }
+
+    #[tactic(auto, unfolding(crate::specs::Reading::expr))]
+    pub fn expr(&self, cursor: &mut Cursor<'_>) -> Result<Expr, Halt>
+        requires { Nests (F.pre self.now.deeper) (F.post self.now.deeper) self.now.levels }
+        ensures { Reads plain_expr (spec.expr sixteen (levels_left sixteen self.now.levels) cursor.old) result cursor.new }
+    {
+        let first = self.both(cursor)?;
+        self.expr_rest(cursor, first)
+    }
+
+    /// The rest of an expression, behind its first operand.
+    #[tactic(auto, unfolding(crate::specs::Reading::rest_of))]
+    pub fn rest_of(&self, cursor: &mut Cursor<'_>, first: Expr) -> Result<Expr, Halt>
+        requires { Nests (F.pre self.now.deeper) (F.post self.now.deeper) self.now.levels }
+        ensures { Reads plain_expr (spec.rest_of sixteen (levels_left sixteen self.now.levels) (plain_expr first) cursor.old) result cursor.new }
+    {
+        let term = self.term_rest(cursor, first)?;
+        let sum = self.sum_rest(cursor, term)?;
+        let cmp = self.cmp_rest(cursor, sum)?;
+        let both = self.both_rest(cursor, cmp)?;
+        self.expr_rest(cursor, both)
+    }
+}
+
+/// Reads an expression, or an operand of `*` or `and`, where so many levels may
+/// be opened.
+pub fn read(
+    alloc: Global,
+    cursor: &mut Cursor<'_>,
+    levels: usize,
+    entry: Entry,
+) -> Result<Expr, Halt>
+    ensures { Reads plain_expr (rule entry (levels_left sixteen levels) cursor.old) result cursor.new }
+{
+    let grammar = Grammar {
+        alloc,
+        levels,
+        deeper: read,
+    };
+    match entry {
+        Entry::WholeExpr => grammar.expr(cursor),
+        Entry::OneUnary => grammar.unary(cursor),
+        Entry::OneNeg => grammar.neg(cursor),
+    }
+}
+
+/// Reads a call, behind its name, where so many levels may be opened.
+pub fn call(alloc: Global, cursor: &mut Cursor<'_>, levels: usize, name: Name) -> Result<Expr, Halt>
+    ensures { Reads plain_expr (spec.call sixteen (levels_left sixteen levels) name cursor.old) result cursor.new }
+{
+    let grammar = Grammar {
+        alloc,
+        levels,
+        deeper: read,
+    };
+    grammar.call(cursor, name)
+}
+
+/// Reads all suffixes behind an operand, where so many levels may be opened.
+pub fn suffixes(
+    alloc: Global,
+    cursor: &mut Cursor<'_>,
+    levels: usize,
+    first: Expr,
+) -> Result<Expr, Halt>
+    ensures { Reads plain_expr (spec.suffixes sixteen (levels_left sixteen levels) (plain_expr first) cursor.old) result cursor.new }
+{
+    let grammar = Grammar {
+        alloc,
+        levels,
+        deeper: read,
+    };
+    grammar.suffixes(cursor, first)
+}
+
+/// Reads the rest of an expression behind its first operand, where so many levels may be opened.
+pub fn rest_of(
+    alloc: Global,
+    cursor: &mut Cursor<'_>,
+    levels: usize,
+    first: Expr,
+) -> Result<Expr, Halt>
+    ensures { Reads plain_expr (spec.rest_of sixteen (levels_left sixteen levels) (plain_expr first) cursor.old) result cursor.new }
+{
+    let grammar = Grammar {
+        alloc,
+        levels,
+        deeper: read,
+    };
+    grammar.rest_of(cursor, first)
+}
