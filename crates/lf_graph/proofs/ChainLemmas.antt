@@ -1,5 +1,5 @@
 -- The lists of all owners after a row comes or goes.
-use Rattle.std.proofs.Common.{◌≡◌, ℕ, Bool, true, false, not, cond, ◌||◌, List, [], ◌∷◌, ◌++◌, Option, Some, None, refl, ap, sym, ◌∙◌, subst}
+use Rattle.std.proofs.Common.{◌≡◌, Bool, true, false, not, cond, ◌||◌, List, [], ◌∷◌, ◌++◌, Option, Some, None, refl, ap, sym, ◌∙◌, subst}
 use Rattle.std.specs.Option.{option_map}
 use Rattle.lf_base.specs.declared.ids.ObjId.{ObjId}
 use Rattle.lf_base.specs.declared.values.Owner.{Owner}
@@ -7,12 +7,13 @@ use Rattle.lf_base.specs.declared.values.Owner.TheVariants.{Local, In, Frozen}
 use Rattle.lf_base.specs.Names.{same_name, same_owner}
 use Rattle.lf_base.proofs.Names.{Decides-same_name, same_name_is}
 use Rattle.lf_base.specs.declared.links.Link.{Link}
-use Rattle.lf_graph.specs.declared.chains.Linked.{Linked}
-use Rattle.lf_graph.specs.declared.chains.Ends.{Ends}
+use Rattle.lf_graph.specs.declared.stored_row.Linked.{Linked}
+use Rattle.lf_graph.specs.declared.stored_row.StoredRow.{StoredRow}
+use Rattle.lf_graph.specs.declared.ends.Ends.{Ends}
 use Rattle.lf_base.specs.Links.{link, head_or, last_or, Spells, to_next, to_prev, Lacks, LacksAt, Differ, relinked, unlinked}
-use Rattle.lf_graph.specs.Chains.{head_at, link_at, owner_at, ends_at, Relinks}
+use Rattle.lf_graph.specs.Chains.{head_at, link_at, owner_at, owner_of_head, row_at, row_of_head, ends_at, Relinks, OnlyRowAt, OnlyStoredAt}
 use Rattle.lf_graph.specs.Chains.{has, is_of, without, after, ends_with, ends_without, IsChain, AreChains}
-use Rattle.lf_base.proofs.LinkedLists.{Spells-at, Spells-kept, Spells-relinked, Spells-pushed, Spells-unlinked, Differ-without}
+use Rattle.lf_base.proofs.LinkedLists.{Lacks-from_has, has-append, relinked-agree, has-from_Lacks, without-lacking, Spells-same, Spells-at, Spells-kept, Spells-relinked, Spells-pushed, Spells-unlinked, Differ-without}
 
 pub owner_is : (v w : Owner) → same_owner v w ≡ true → v ≡ w
 owner_is Local Local e = refl
@@ -38,11 +39,11 @@ pub or_true : (b : Bool) → (b || true) ≡ true
 or_true true = refl
 or_true false = refl
 
-or_none : (a b : Bool) → (a || b) ≡ false → (a ≡ false) × (b ≡ false)
+pub or_none : (a b : Bool) → (a || b) ≡ false → (a ≡ false) × (b ≡ false)
 or_none true b e = cc
 or_none false b e = (refl, e)
 
-name_flips : (a b : ObjId) → same_name a b ≡ false → same_name b a ≡ false
+pub name_flips : (a b : ObjId) → same_name a b ≡ false → same_name b a ≡ false
 name_flips a b e = elim (same_name b a) as (λ t. same_name b a ≡ t → t ≡ false) [
   | true ↦ λ h. let k : same_name a b ≡ true = (Decides-same_name a b).1 (sym (same_name_is b a h)) in cc (k, e)
   | false ↦ λ h. refl
@@ -50,17 +51,6 @@ name_flips a b e = elim (same_name b a) as (λ t. same_name b a ≡ t → t ≡ 
 
 pub name_itself : (a : ObjId) → same_name a a ≡ true
 name_itself a = (Decides-same_name a a).1 refl
-
-Lacks-from_has : (x : ObjId) (xs : List ObjId) → has x xs ≡ false → Lacks same_name x xs
-Lacks-from_has x [] e = tt
-Lacks-from_has x (y ∷ ys) e = let p = or_none (same_name x y) (has x ys) e in (p.0, Lacks-from_has x ys p.1)
-
-has-append : (q : ObjId) (xs ys : List ObjId) → has q (xs ++ ys) ≡ (has q xs || has q ys)
-has-append q [] ys = refl
-has-append q (x ∷ xs) ys = elim (same_name q x) as (λ b. (b || has q (xs ++ ys)) ≡ ((b || has q xs) || has q ys)) [
-  | true ↦ refl
-  | false ↦ has-append q xs ys
-]
 
 Differ-push : (xs : List ObjId) (o : ObjId) → Differ same_name xs → Lacks same_name o xs → Differ same_name (xs ++ o ∷ [])
 Differ-push [] o d l = (tt, tt)
@@ -70,17 +60,17 @@ Differ-push (x ∷ xs) o d l = (lacks_push x xs o d.0 (name_flips o x l.0), Diff
   lacks_push x (y ∷ ys) o l e = (l.0, lacks_push x ys o l.1 e)
 
 -- rows of one owner are not another's
-other_owner : (v w : Owner) (x : Option Owner) → same_owner v w ≡ false → is_of v x ≡ true → is_of w x ≡ false
+pub other_owner : (v w : Owner) (x : Option Owner) → same_owner v w ≡ false → is_of v x ≡ true → is_of w x ≡ false
 other_owner v w None e h = cc
 other_owner v w (Some u) e h = ap (λ t. same_owner t w) (owner_is u v h) ∙ e
 
 LacksAt-last : (c : Option ObjId) (ys xs : List ObjId) → LacksAt same_name c xs → ((q : ObjId) → has q ys ≡ true → has q xs ≡ false) → LacksAt same_name (last_or c ys) xs
 LacksAt-last c [] xs l h = l
-LacksAt-last c (y ∷ ys) xs l h = LacksAt-last (Some y) ys xs (Lacks-from_has y xs (h y (ap (λ b. b || has y ys) (name_itself y)))) (λ q e. h q (ap (λ b. same_name q y || b) e ∙ or_true (same_name q y)))
+LacksAt-last c (y ∷ ys) xs l h = LacksAt-last (Some y) ys xs (Lacks-from_has same_name Decides-same_name y xs (h y (ap (λ b. b || has y ys) (name_itself y)))) (λ q e. h q (ap (λ b. same_name q y || b) e ∙ or_true (same_name q y)))
 
 LacksAt-head : (ys xs : List ObjId) → ((q : ObjId) → has q ys ≡ true → has q xs ≡ false) → LacksAt same_name (head_or ys None) xs
 LacksAt-head [] xs h = tt
-LacksAt-head (y ∷ ys) xs h = Lacks-from_has y xs (h y (ap (λ b. b || has y ys) (name_itself y)))
+LacksAt-head (y ∷ ys) xs h = Lacks-from_has same_name Decides-same_name y xs (h y (ap (λ b. b || has y ys) (name_itself y)))
 
 last_or_push : (c : Option ObjId) (xs : List ObjId) (o : ObjId) → last_or c (xs ++ o ∷ []) ≡ Some o
 last_or_push c [] o = refl
@@ -96,27 +86,32 @@ last_pushed : (t : Option Ends) (o : ObjId) → option_map (λ (t : Ends). t.las
 last_pushed None o = refl
 last_pushed (Some t) o = refl
 
-module _ (m m1 m3 : ObjId → Option Linked) (e new : Owner → Option Ends) (o : ObjId) (v : Owner) (count : ℕ) (last : Option ObjId) (L : Owner → List ObjId)
+-- where only a link changes, owners stay
+owner_kept : {m n : ObjId → Option Linked} {at : Option ObjId} {f : Link ObjId → Link ObjId} → Relinks m n at f → (q : ObjId) → owner_at n q ≡ owner_at m q
+owner_kept s q = ap (option_map (λ (r : StoredRow). r.owner)) (s.rows q)
+
+module _ (m m1 m3 : ObjId → Option Linked) (e new : Owner → Option Ends) (o : ObjId) (v : Owner) (row : StoredRow) (last : Option ObjId) (L : Owner → List ObjId)
+    (owned : row.owner ≡ v)
     (fresh : head_at m o ≡ None)
     (last_is : last ≡ option_map (λ (t : Ends). t.last) (ends_at e v))
     (step : Relinks m m1 last (to_next (Some o)))
-    (put : (q : ObjId) → head_at m3 q ≡ cond (same_name o q) (Some (record { owner = v; refs = count; link = link last None })) (head_at m1 q))
+    (put : (q : ObjId) → head_at m3 q ≡ cond (same_name o q) (Some (record { row = row; link = link last None })) (head_at m1 q))
     (ends : (w : Owner) → ends_at new w ≡ cond (same_owner v w) (ends_with o (ends_at e v)) (ends_at e w))
     (old : AreChains m e L) where
   links : (q : ObjId) → link_at m3 q ≡ cond (same_name o q) (Some (link last None)) (relinked same_name (link_at m) last (to_next (Some o)) q)
-  links q = ap (option_map (λ (h : Linked). h.link)) (put q) ∙ elim (same_name o q) as (λ b. option_map (λ (h : Linked). h.link) (cond b (Some (record { owner = v; refs = count; link = link last None })) (head_at m1 q)) ≡ cond b (Some (link last None)) (relinked same_name (link_at m) last (to_next (Some o)) q)) [
+  links q = ap (option_map (λ (h : Linked). h.link)) (put q) ∙ elim (same_name o q) as (λ b. option_map (λ (h : Linked). h.link) (cond b (Some (record { row = row; link = link last None })) (head_at m1 q)) ≡ cond b (Some (link last None)) (relinked same_name (link_at m) last (to_next (Some o)) q)) [
     | true ↦ refl
     | false ↦ step.links q
   ]
 
   owners : (q : ObjId) → owner_at m3 q ≡ cond (same_name o q) (Some v) (owner_at m q)
-  owners q = ap (option_map (λ (h : Linked). h.owner)) (put q) ∙ elim (same_name o q) as (λ b. option_map (λ (h : Linked). h.owner) (cond b (Some (record { owner = v; refs = count; link = link last None })) (head_at m1 q)) ≡ cond b (Some v) (owner_at m q)) [
-    | true ↦ refl
-    | false ↦ step.owners q
+  owners q = ap owner_of_head (put q) ∙ elim (same_name o q) as (λ b. owner_of_head (cond b (Some (record { row = row; link = link last None })) (head_at m1 q)) ≡ cond b (Some v) (owner_at m q)) [
+    | true ↦ ap Some owned
+    | false ↦ owner_kept step q
   ]
 
   absent : (w : Owner) → has o (L w) ≡ false
-  absent w = (old w).members o ∙ ap (λ t. is_of w (option_map (λ (h : Linked). h.owner) t)) fresh
+  absent w = (old w).members o ∙ ap (λ t. is_of w (owner_of_head t)) fresh
 
   other : (q : ObjId) → same_name o q ≡ false → link_at m3 q ≡ relinked same_name (link_at m) last (to_next (Some o)) q
   other q n = links q ∙ ap (λ b. cond b (Some (link last None)) (relinked same_name (link_at m) last (to_next (Some o)) q)) n
@@ -127,13 +122,13 @@ module _ (m m1 m3 : ObjId → Option Linked) (e new : Owner → Option Ends) (o 
       let lp : last ≡ last_or None (L w) = last_is ∙ (old v).last ∙ ap (λ u. last_or None (L u)) p in
       let en : ends_at new w ≡ ends_with o (ends_at e w) = ends w ∙ ap (λ b. cond b (ends_with o (ends_at e v)) (ends_at e w)) t ∙ ap (λ u. ends_with o (ends_at e u)) p in
       record {
-        links = Spells-pushed same_name Decides-same_name (link_at m) (link_at m3) (L w) o (old w).differ (Lacks-from_has o (L w) (absent w)) (old w).links
+        links = Spells-pushed same_name Decides-same_name (link_at m) (link_at m3) (L w) o (old w).differ (Lacks-from_has same_name Decides-same_name o (L w) (absent w)) (old w).links
             (links o ∙ ap (λ b. cond b (Some (link last None)) (relinked same_name (link_at m) last (to_next (Some o)) o)) (name_itself o) ∙ ap (λ t. Some (link t None)) lp)
             (λ q n. other q n ∙ ap (λ t. relinked same_name (link_at m) t (to_next (Some o)) q) lp);
-        differ = Differ-push (L w) o (old w).differ (Lacks-from_has o (L w) (absent w));
+        differ = Differ-push (L w) o (old w).differ (Lacks-from_has same_name Decides-same_name o (L w) (absent w));
         first = ap (option_map (λ (t : Ends). t.first)) en ∙ first_pushed (ends_at e w) (L w) o (old w).first;
         last = ap (option_map (λ (t : Ends). t.last)) en ∙ last_pushed (ends_at e w) o ∙ sym (last_or_push None (L w) o);
-        members = λ q. has-append q (L w) (o ∷ []) ∙ (elim (same_name o q) as (λ b. same_name o q ≡ b → (has q (L w) || (same_name q o || false)) ≡ is_of w (cond b (Some v) (owner_at m q))) [
+        members = λ q. has-append same_name Decides-same_name q (L w) (o ∷ []) ∙ (elim (same_name o q) as (λ b. same_name o q ≡ b → (has q (L w) || (same_name q o || false)) ≡ is_of w (cond b (Some v) (owner_at m q))) [
           | true ↦ λ n. ap (λ b. has q (L w) || (b || false)) (ap (λ u. same_name u o) (sym (same_name_is o q n)) ∙ name_itself o) ∙ or_true (has q (L w)) ∙ sym t
           | false ↦ λ n. ap (λ b. has q (L w) || (b || false)) (name_flips o q n) ∙ or_false (has q (L w)) ∙ (old w).members q
         ] refl) ∙ sym (ap (is_of w) (owners q));
@@ -146,7 +141,7 @@ module _ (m m1 m3 : ObjId → Option Linked) (e new : Owner → Option Ends) (o 
       let far : LacksAt same_name last (L w) = subst (λ t. LacksAt same_name t (L w)) (sym lp) (LacksAt-last None (L v) (L w) tt apart) in
       let en : ends_at new w ≡ ends_at e w = ends w ∙ ap (λ b. cond b (ends_with o (ends_at e v)) (ends_at e w)) n in
       record {
-        links = Spells-kept same_name Decides-same_name (relinked same_name (link_at m) last (to_next (Some o))) (link_at m3) None (L w) None o (Lacks-from_has o (L w) (absent w)) other
+        links = Spells-kept same_name Decides-same_name (relinked same_name (link_at m) last (to_next (Some o))) (link_at m3) None (L w) None o (Lacks-from_has same_name Decides-same_name o (L w) (absent w)) other
             (Spells-relinked same_name Decides-same_name (link_at m) (to_next (Some o)) last None (L w) None far (old w).links);
         differ = (old w).differ;
         first = ap (option_map (λ (t : Ends). t.first)) en ∙ (old w).first;
@@ -163,25 +158,12 @@ module _ (m m1 m3 : ObjId → Option Linked) (e new : Owner → Option Ends) (o 
     | false ↦ there w
   ] refl
 
--- ---- a row goes
-relinked-agree : (g k : ObjId → Option (Link ObjId)) (at : Option ObjId) (f : Link ObjId → Link ObjId) (q : ObjId) → g q ≡ k q → relinked same_name g at f q ≡ relinked same_name k at f q
-relinked-agree g k None f q h = h
-relinked-agree g k (Some x) f q h = ap (λ t. cond (same_name x q) (option_map f t) t) h
-
-has-from_Lacks : (x : ObjId) (xs : List ObjId) → Lacks same_name x xs → has x xs ≡ false
-has-from_Lacks x [] l = refl
-has-from_Lacks x (y ∷ ys) l = ap (λ b. b || has x ys) l.0 ∙ has-from_Lacks x ys l.1
-
 Lacks-parts : (x : ObjId) (xs ys : List ObjId) → Lacks same_name x (xs ++ ys) → Lacks same_name x xs × Lacks same_name x ys
 Lacks-parts x [] ys l = (tt, l)
 Lacks-parts x (y ∷ xs) ys l = let p = Lacks-parts x xs ys l.1 in ((l.0, p.0), p.1)
 
-without-lacking : (o : ObjId) (xs : List ObjId) → Lacks same_name o xs → without o xs ≡ xs
-without-lacking o [] l = refl
-without-lacking o (x ∷ xs) l = ap (λ b. cond (not b) (x ∷ without o xs) (without o xs)) l.0 ∙ ap (λ t. x ∷ t) (without-lacking o xs l.1)
-
 without-middle : (o : ObjId) (xs ys : List ObjId) → Differ same_name (xs ++ o ∷ ys) → without o (xs ++ o ∷ ys) ≡ xs ++ ys
-without-middle o [] ys d = ap (λ b. cond (not b) (o ∷ without o ys) (without o ys)) (name_itself o) ∙ without-lacking o ys d.0
+without-middle o [] ys d = ap (λ b. cond (not b) (o ∷ without o ys) (without o ys)) (name_itself o) ∙ without-lacking same_name Decides-same_name o ys d.0
 without-middle o (x ∷ xs) ys d =
     ap (λ b. cond (not b) (x ∷ without o (xs ++ o ∷ ys)) (without o (xs ++ o ∷ ys))) (name_flips x o (Lacks-parts x xs (o ∷ ys) d.0).1.0) ∙ ap (λ t. x ∷ t) (without-middle o xs ys d.1)
 
@@ -246,7 +228,7 @@ module _ (m m1 m2 m3 : ObjId → Option Linked) (e new : Owner → Option Ends) 
     (gone : (q : ObjId) → head_at m1 q ≡ cond (same_name o q) None (head_at m q))
     (one : Relinks m1 m2 h.link.prev (to_next h.link.next))
     (two : Relinks m2 m3 h.link.next (to_prev h.link.prev))
-    (ends : (w : Owner) → ends_at new w ≡ cond (same_owner h.owner w) (ends_without h.link.prev h.link.next (ends_at e h.owner)) (ends_at e w))
+    (ends : (w : Owner) → ends_at new w ≡ cond (same_owner (h.row).owner w) (ends_without h.link.prev h.link.next (ends_at e (h.row).owner)) (ends_at e w))
     (old : AreChains m e L) where
   abbrev prev : Option ObjId
   prev = h.link.prev
@@ -257,29 +239,29 @@ module _ (m m1 m2 m3 : ObjId → Option Linked) (e new : Owner → Option Ends) 
   relinks : (q : ObjId) → same_name o q ≡ false → link_at m3 q ≡ unlinked same_name (link_at m) prev next q
   relinks q n =
       let a : link_at m1 q ≡ link_at m q = ap (option_map (λ (x : Linked). x.link)) (gone q ∙ ap (λ b. cond b None (head_at m q)) n) in
-      let b : link_at m2 q ≡ relinked same_name (link_at m) prev (to_next next) q = one.links q ∙ relinked-agree (link_at m1) (link_at m) prev (to_next next) q a in
-      two.links q ∙ relinked-agree (link_at m2) (relinked same_name (link_at m) prev (to_next next)) next (to_prev prev) q b
+      let b : link_at m2 q ≡ relinked same_name (link_at m) prev (to_next next) q = one.links q ∙ relinked-agree same_name Decides-same_name (link_at m1) (link_at m) prev (to_next next) q a in
+      two.links q ∙ relinked-agree same_name Decides-same_name (link_at m2) (relinked same_name (link_at m) prev (to_next next)) next (to_prev prev) q b
 
   owners_left : (q : ObjId) → owner_at m3 q ≡ cond (same_name o q) None (owner_at m q)
-  owners_left q = two.owners q ∙ one.owners q ∙ ap (option_map (λ (x : Linked). x.owner)) (gone q) ∙ elim (same_name o q) as (λ b. option_map (λ (x : Linked). x.owner) (cond b None (head_at m q)) ≡ cond b None (owner_at m q)) [
+  owners_left q = owner_kept two q ∙ owner_kept one q ∙ ap owner_of_head (gone q) ∙ elim (same_name o q) as (λ b. owner_of_head (cond b None (head_at m q)) ≡ cond b None (owner_at m q)) [
     | true ↦ refl
     | false ↦ refl
   ]
 
-  its_owner : owner_at m o ≡ Some h.owner
-  its_owner = ap (option_map (λ (x : Linked). x.owner)) is
+  its_owner : owner_at m o ≡ Some (h.row).owner
+  its_owner = ap owner_of_head is
 
-  is_in : (w : Owner) → has o (L w) ≡ same_owner h.owner w
+  is_in : (w : Owner) → has o (L w) ≡ same_owner (h.row).owner w
   is_in w = (old w).members o ∙ ap (is_of w) its_owner
 
-  cut_at : (w : Owner) → same_owner h.owner w ≡ true → (xs ys : List ObjId) → IsChain m e w (xs ++ o ∷ ys) → IsChain m3 new w (xs ++ ys)
+  cut_at : (w : Owner) → same_owner (h.row).owner w ≡ true → (xs ys : List ObjId) → IsChain m e w (xs ++ o ∷ ys) → IsChain m3 new w (xs ++ ys)
   cut_at w t xs ys was =
       let l : Some h.link ≡ Some (link (last_or None xs) (head_or ys None)) = sym (ap (option_map (λ (x : Linked). x.link)) is) ∙ Spells-at same_name Decides-same_name (link_at m) xs ys o was.links in
       let lp : prev ≡ last_or None xs = cc in
       let ln : next ≡ head_or ys None = cc in
       let lacks = middle_lacks o xs ys was.differ in
       let en : ends_at new w ≡ ends_without (last_or None xs) (head_or ys None) (ends_at e w)
-      = ends w ∙ ap (λ b. cond b (ends_without prev next (ends_at e h.owner)) (ends_at e w)) t ∙ ap (λ u. ends_without prev next (ends_at e u)) (owner_is h.owner w t) ∙ (λ i. ends_without (lp i) (ln i) (ends_at e w)) in
+      = ends w ∙ ap (λ b. cond b (ends_without prev next (ends_at e (h.row).owner)) (ends_at e w)) t ∙ ap (λ u. ends_without prev next (ends_at e u)) (owner_is (h.row).owner w t) ∙ (λ i. ends_without (lp i) (ln i) (ends_at e w)) in
       record {
         links = Spells-kept same_name Decides-same_name (unlinked same_name (link_at m) (last_or None xs) (head_or ys None)) (link_at m3) None (xs ++ ys) None o lacks
             (λ q n. relinks q n ∙ (λ i. unlinked same_name (link_at m) (lp i) (ln i) q))
@@ -288,32 +270,32 @@ module _ (m m1 m2 m3 : ObjId → Option Linked) (e new : Owner → Option Ends) 
         first = ap first_of en ∙ first_cut (ends_at e w) xs o ys was.first;
         last = ap last_of en ∙ last_cut (ends_at e w) xs o ys was.last;
         members = λ q. (elim (same_name o q) as (λ b. same_name o q ≡ b → has q (xs ++ ys) ≡ is_of w (cond b None (owner_at m q))) [
-          | true ↦ λ s. ap (λ u. has u (xs ++ ys)) (sym (same_name_is o q s)) ∙ has-from_Lacks o (xs ++ ys) lacks
-          | false ↦ λ s. has-append q xs ys ∙ ap (λ b. has q xs || (b || has q ys)) (sym (name_flips o q s)) ∙ sym (has-append q xs (o ∷ ys)) ∙ was.members q
+          | true ↦ λ s. ap (λ u. has u (xs ++ ys)) (sym (same_name_is o q s)) ∙ has-from_Lacks same_name Decides-same_name o (xs ++ ys) lacks
+          | false ↦ λ s. has-append same_name Decides-same_name q xs ys ∙ ap (λ b. has q xs || (b || has q ys)) (sym (name_flips o q s)) ∙ sym (has-append same_name Decides-same_name q xs (o ∷ ys)) ∙ was.members q
         ] refl) ∙ sym (ap (is_of w) (owners_left q));
       }
 
-  left_here : (w : Owner) → same_owner h.owner w ≡ true → IsChain m3 new w (without o (L w))
+  left_here : (w : Owner) → same_owner (h.row).owner w ≡ true → IsChain m3 new w (without o (L w))
   left_here w t =
       let s = split o (L w) (is_in w ∙ t) in
       let was : IsChain m e w (s.front ++ o ∷ s.back) = subst (IsChain m e w) s.is (old w) in
       subst (IsChain m3 new w) (sym (ap (without o) s.is ∙ without-middle o s.front s.back was.differ)) (cut_at w t s.front s.back was)
 
-  left_there : (w : Owner) → same_owner h.owner w ≡ false → IsChain m3 new w (without o (L w))
+  left_there : (w : Owner) → same_owner (h.row).owner w ≡ false → IsChain m3 new w (without o (L w))
   left_there w n =
-      let absent : Lacks same_name o (L w) = Lacks-from_has o (L w) (is_in w ∙ n) in
-      let en : ends_at new w ≡ ends_at e w = ends w ∙ ap (λ b. cond b (ends_without prev next (ends_at e h.owner)) (ends_at e w)) n in
-      let apart : (q : ObjId) → has q (L h.owner) ≡ true → has q (L w) ≡ false = λ q k. (old w).members q ∙ other_owner h.owner w (owner_at m q) n (sym ((old h.owner).members q) ∙ k) in
-      let s = split o (L h.owner) (is_in h.owner ∙ owner_itself h.owner) in
-      let was : IsChain m e h.owner (s.front ++ o ∷ s.back) = subst (IsChain m e h.owner) s.is (old h.owner) in
+      let absent : Lacks same_name o (L w) = Lacks-from_has same_name Decides-same_name o (L w) (is_in w ∙ n) in
+      let en : ends_at new w ≡ ends_at e w = ends w ∙ ap (λ b. cond b (ends_without prev next (ends_at e (h.row).owner)) (ends_at e w)) n in
+      let apart : (q : ObjId) → has q (L (h.row).owner) ≡ true → has q (L w) ≡ false = λ q k. (old w).members q ∙ other_owner (h.row).owner w (owner_at m q) n (sym ((old (h.row).owner).members q) ∙ k) in
+      let s = split o (L (h.row).owner) (is_in (h.row).owner ∙ owner_itself (h.row).owner) in
+      let was : IsChain m e (h.row).owner (s.front ++ o ∷ s.back) = subst (IsChain m e (h.row).owner) s.is (old (h.row).owner) in
       let l : Some h.link ≡ Some (link (last_or None s.front) (head_or s.back None)) = sym (ap (option_map (λ (x : Linked). x.link)) is) ∙ Spells-at same_name Decides-same_name (link_at m) s.front s.back o was.links in
       let lp : prev ≡ last_or None s.front = cc in
       let ln : next ≡ head_or s.back None = cc in
       let far : (q : ObjId) → has q (s.front ++ o ∷ s.back) ≡ true → has q (L w) ≡ false = λ q k. apart q (ap (has q) s.is ∙ k) in
       let farp : LacksAt same_name prev (L w) = subst (λ t. LacksAt same_name t (L w)) (sym lp)
-      (LacksAt-last None s.front (L w) tt (λ q k. far q (has-append q s.front (o ∷ s.back) ∙ ap (λ b. b || has q (o ∷ s.back)) k))) in
+      (LacksAt-last None s.front (L w) tt (λ q k. far q (has-append same_name Decides-same_name q s.front (o ∷ s.back) ∙ ap (λ b. b || has q (o ∷ s.back)) k))) in
       let farn : LacksAt same_name next (L w) = subst (λ t. LacksAt same_name t (L w)) (sym ln)
-      (LacksAt-head s.back (L w) (λ q k. far q (has-append q s.front (o ∷ s.back) ∙ ap (λ b. has q s.front || (same_name q o || b)) k ∙ ap (λ b. has q s.front || b) (or_true (same_name q o)) ∙ or_true (has q s.front)))) in
+      (LacksAt-head s.back (L w) (λ q k. far q (has-append same_name Decides-same_name q s.front (o ∷ s.back) ∙ ap (λ b. has q s.front || (same_name q o || b)) k ∙ ap (λ b. has q s.front || b) (or_true (same_name q o)) ∙ or_true (has q s.front)))) in
       let kept : IsChain m3 new w (L w) = record {
         links = Spells-kept same_name Decides-same_name (unlinked same_name (link_at m) prev next) (link_at m3) None (L w) None o absent relinks
             (Spells-relinked same_name Decides-same_name (relinked same_name (link_at m) prev (to_next next)) (to_prev prev) next None (L w) None farn
@@ -326,10 +308,10 @@ module _ (m m1 m2 m3 : ObjId → Option Linked) (e new : Owner → Option Ends) 
           | false ↦ λ s. (old w).members q
         ] refl) ∙ sym (ap (is_of w) (owners_left q));
       } in
-      subst (IsChain m3 new w) (sym (without-lacking o (L w) absent)) kept
+      subst (IsChain m3 new w) (sym (without-lacking same_name Decides-same_name o (L w) absent)) kept
 
   pub AreChains-unlinked : AreChains m3 new (λ w. without o (L w))
-  AreChains-unlinked w = elim (same_owner h.owner w) as (λ b. same_owner h.owner w ≡ b → IsChain m3 new w (without o (L w))) [
+  AreChains-unlinked w = elim (same_owner (h.row).owner w) as (λ b. same_owner (h.row).owner w ≡ b → IsChain m3 new w (without o (L w))) [
     | true ↦ left_here w
     | false ↦ left_there w
   ] refl
@@ -344,10 +326,6 @@ Spells-next get b (x ∷ xs) o l s h g = elim (same_name o x) as (λ t. same_nam
 pub next_is : (m : ObjId → Option Linked) (e : Owner → Option Ends) (o : ObjId) (h : Linked) (w : Owner) (xs : List ObjId) → IsChain m e w xs → owner_at m o ≡ Some w → head_at m o ≡ Some h → h.link.next ≡ after o xs
 next_is m e o h w xs c own g = Spells-next (link_at m) None xs o h.link c.links (c.members o ∙ ap (is_of w) own ∙ owner_itself w) (ap (option_map (λ (x : Linked). x.link)) g)
 
-Spells-same : (get new : ObjId → Option (Link ObjId)) (b : Option ObjId) (xs : List ObjId) (a : Option ObjId) → ((q : ObjId) → new q ≡ get q) → Spells get b xs a → Spells new b xs a
-Spells-same get new b [] a k s = tt
-Spells-same get new b (x ∷ xs) a k s = (k x ∙ s.0, Spells-same get new (Some x) xs a k s.1)
-
 pub AreChains-same : (m : ObjId → Option Linked) (n : ObjId → Option Linked) (e : Owner → Option Ends) (f : Owner → Option Ends) (L : Owner → List ObjId)
     → ((q : ObjId) → head_at n q ≡ head_at m q) → ((w : Owner) → ends_at f w ≡ ends_at e w) → AreChains m e L → AreChains n f L
 AreChains-same m n e f L h k old w = record {
@@ -355,7 +333,7 @@ AreChains-same m n e f L h k old w = record {
   differ = (old w).differ;
   first = ap first_of (k w) ∙ (old w).first;
   last = ap last_of (k w) ∙ (old w).last;
-  members = λ q. (old w).members q ∙ ap (λ t. is_of w (option_map (λ (x : Linked). x.owner) t)) (sym (h q));
+  members = λ q. (old w).members q ∙ ap (λ t. is_of w (owner_of_head t)) (sym (h q));
 }
 
 -- a table without rows
@@ -365,9 +343,26 @@ AreChains-empty m e rows ends w = record {
   differ = tt;
   first = ap first_of (ends w);
   last = ap last_of (ends w);
-  members = λ q. ap (λ t. is_of w (option_map (λ (x : Linked). x.owner) t)) (sym (rows q));
+  members = λ q. ap (λ t. is_of w (owner_of_head t)) (sym (rows q));
 }
 
-pub none_kept : (t : Option Linked) → option_map (λ (x : Linked). x.owner) t ≡ None → t ≡ None
+pub none_kept : (t : Option Linked) → row_of_head t ≡ None → t ≡ None
 none_kept None e = refl
 none_kept (Some h) e = cc
+
+-- which rows are kept, where a new one is linked in
+pub rows_pushed : (m m1 m3 : ObjId → Option Linked) (o : ObjId) (head : Linked) (at : Option ObjId) (f : Link ObjId → Link ObjId) → Relinks m m1 at f → OnlyRowAt m1 m3 o (Some head) → OnlyStoredAt m m3 o (Some head.row)
+rows_pushed m m1 m3 o head at f step put q = ap row_of_head (put q) ∙ (elim (same_name o q) as (λ b. row_of_head (cond b (Some head) (head_at m1 q)) ≡ cond b (Some head.row) (row_at m q)) [
+  | true ↦ refl
+  | false ↦ step.rows q
+])
+
+-- and where one is taken out
+pub rows_left : (m m1 m2 m3 : ObjId → Option Linked) (o : ObjId) (at to : Option ObjId) (f g : Link ObjId → Link ObjId) → OnlyRowAt m m1 o None → Relinks m1 m2 at f → Relinks m2 m3 to g → OnlyStoredAt m m3 o None
+rows_left m m1 m2 m3 o at to f g gone one two q = two.rows q ∙ one.rows q ∙ ap row_of_head (gone q) ∙ (elim (same_name o q) as (λ b. row_of_head (cond b None (head_at m q)) ≡ cond b None (row_at m q)) [
+  | true ↦ refl
+  | false ↦ refl
+])
+
+pub no_row : (t : Option Linked) → t ≡ None → row_of_head t ≡ None
+no_row t e = ap row_of_head e

@@ -1,34 +1,63 @@
--- A write to the links of one row, and to the ends of one owner.
-use Rattle.std.proofs.Common.{Bool, Option, Some, ap, cond, false, refl, subst, sym, true, ℕ, ◌∙◌, ◌≡◌}
-use Rattle.std.specs.Option.{IsSome, option_map}
-use Rattle.std.specs.HashMap.{HashMap, WritesThrough}
+-- A write to the links of one row, and a row in place of another.
+use Rattle.std.proofs.Common.{Bool, List, None, Option, Some, ap, cond, false, refl, sym, true, ◌∙◌, ◌≡◌}
+use Rattle.std.specs.Option.{option_map}
 use Rattle.lf_base.specs.declared.ids.ObjId.{ObjId}
+use Rattle.lf_base.specs.declared.links.Link.{Link}
 use Rattle.lf_base.specs.declared.values.Owner.{Owner}
+use Rattle.lf_base.specs.Links.{relinked}
 use Rattle.lf_base.specs.Names.{same_name}
 use Rattle.lf_base.proofs.Names.{same_name_is}
-use Rattle.lf_base.specs.declared.links.Link.{Link}
-use Rattle.lf_graph.specs.declared.chains.Linked.{Linked}
-use Rattle.lf_graph.specs.ChainMaps.{heads_of}
-use Rattle.lf_graph.specs.Chains.{Relinks, link_at, owner_at, refs_at}
-use Rattle.lf_base.specs.Links.{relinked}
+use Rattle.lf_graph.specs.declared.ends.Ends.{Ends}
+use Rattle.lf_graph.specs.declared.stored_row.Linked.{Linked}
+use Rattle.lf_graph.specs.declared.stored_row.StoredRow.{StoredRow}
+use Rattle.lf_graph.specs.Chains.{AreChains, OnlyRowAt, OnlyStoredAt, Relinks, is_of, link_at, owner_at, owner_of_head, row_at, row_of_head}
+use Rattle.lf_base.proofs.LinkedLists.{Spells-same}
 
 same_either : {X : Type 0} (b : Bool) (x : X) → cond b x x ≡ x
 same_either true x = refl
 same_either false x = refl
 
--- one row is written, and its links alone change
-pub Relinks-written : {S : Type 0} (m n : HashMap ObjId Linked S) (at : Option ObjId) (o : ObjId) (h : Linked) (f : Link ObjId → Link ObjId) → at ≡ Some o → Some h ≡ heads_of m o
-    → WritesThrough same_name (same_name o) m (record h { link = f h.link }) n → Relinks (heads_of m) (heads_of n) at f
-Relinks-written m n at o h f a v w =
-    let new : Linked = record h { link = f h.link } in
-    let got : (q : ObjId) → heads_of n q ≡ cond (same_name o q) (Some new) (heads_of m q) = (w.3 (subst IsSome v refl)).0 in
-    let here : (X : Type 0) (g : Linked → X) (G : Option X → Option X) → Some (g new) ≡ G (Some (g h)) → (q : ObjId) → option_map g (heads_of n q) ≡ cond (same_name o q) (G (option_map g (heads_of m q))) (option_map g (heads_of m q))
-    = λ X g G e q. ap (option_map g) (got q) ∙ (elim (same_name o q) as (λ b. same_name o q ≡ b → option_map g (cond b (Some new) (heads_of m q)) ≡ cond b (G (option_map g (heads_of m q))) (option_map g (heads_of m q))) [
-      | true ↦ λ t. e ∙ ap (λ x. G (option_map g x)) (v ∙ ap (heads_of m) (same_name_is o q t))
-      | false ↦ λ t. refl
-    ] refl) in
-    record {
-      links = λ q. here (Link ObjId) (λ x. x.link) (option_map f) refl q ∙ ap (λ t. relinked same_name (link_at (heads_of m)) t f q) (sym a);
-      owners = λ q. here Owner (λ x. x.owner) (λ x. x) refl q ∙ same_either (same_name o q) (owner_at (heads_of m) q);
-      counts = λ q. here ℕ (λ x. x.refs) (λ x. x) refl q ∙ same_either (same_name o q) (refs_at (heads_of m) q);
-    }
+-- what is found of each row where one is replaced: a part of it that G changes
+part_written : {X : Type 0} (m n : ObjId → Option Linked) (o : ObjId) (h new : Linked) → OnlyRowAt m n o (Some new) → Some h ≡ m o
+    → (g : Linked → X) (G : Option X → Option X) → Some (g new) ≡ G (Some (g h)) → (q : ObjId) → option_map g (n q) ≡ cond (same_name o q) (G (option_map g (m q))) (option_map g (m q))
+part_written m n o h new w v g G e q = ap (option_map g) (w q) ∙ (elim (same_name o q) as (λ b. same_name o q ≡ b → option_map g (cond b (Some new) (m q)) ≡ cond b (G (option_map g (m q))) (option_map g (m q))) [
+  | true ↦ λ t. e ∙ ap (λ x. G (option_map g x)) (v ∙ ap m (same_name_is o q t))
+  | false ↦ λ t. refl
+] refl)
+
+-- one row is replaced, and its link alone changes
+pub Relinks-written : (m n : ObjId → Option Linked) (at : Option ObjId) (o : ObjId) (h : Linked) (f : Link ObjId → Link ObjId) → at ≡ Some o → Some h ≡ m o
+    → OnlyRowAt m n o (Some (record h { link = f h.link })) → Relinks m n at f
+Relinks-written m n at o h f a v w = record {
+  links = λ q. part_written m n o h (record h { link = f h.link }) w v (λ x. x.link) (option_map f) refl q ∙ ap (λ t. relinked same_name (link_at m) t f q) (sym a);
+  rows = λ q. part_written m n o h (record h { link = f h.link }) w v (λ x. x.row) (λ x. x) refl q ∙ same_either (same_name o q) (row_at m q);
+}
+
+-- one row is replaced by one of its owner
+module _ (m n : ObjId → Option Linked) (e : Owner → Option Ends) (o : ObjId) (h : Linked) (row : StoredRow) (v : Some h ≡ m o) (owned : row.owner ≡ (h.row).owner) (w : OnlyRowAt m n o (Some (record h { row = row }))) where
+  pub rows_replaced : OnlyStoredAt m n o (Some row)
+  rows_replaced q = ap row_of_head (w q) ∙ (elim (same_name o q) as (λ b. row_of_head (cond b (Some (record h { row = row })) (m q)) ≡ cond b (Some row) (row_at m q)) [
+    | true ↦ refl
+    | false ↦ refl
+  ])
+
+  links_stay : (q : ObjId) → link_at n q ≡ link_at m q
+  links_stay q = part_written m n o h (record h { row = row }) w v (λ x. x.link) (λ x. x) refl q ∙ same_either (same_name o q) (link_at m q)
+
+  owners_stay : (q : ObjId) → owner_at n q ≡ owner_at m q
+  owners_stay q = ap owner_of_head (w q) ∙ (elim (same_name o q) as (λ b. same_name o q ≡ b → owner_of_head (cond b (Some (record h { row = row })) (m q)) ≡ owner_at m q) [
+    | true ↦ λ t. ap Some owned ∙ ap owner_of_head (v ∙ ap m (same_name_is o q t))
+    | false ↦ λ t. refl
+  ] refl)
+
+  pub chains_replaced : (L : Owner → List ObjId) → AreChains m e L → AreChains n e L
+  chains_replaced L old w = record {
+    links = Spells-same (link_at m) (link_at n) None (L w) None links_stay (old w).links;
+    differ = (old w).differ;
+    first = (old w).first;
+    last = (old w).last;
+    members = λ q. (old w).members q ∙ ap (is_of w) (sym (owners_stay q));
+  }
+
+pub same_owner_kept : (h : Linked) (v : Owner) → Some ((h.row).owner) ≡ Some v → v ≡ (h.row).owner
+same_owner_kept h v e = cc

@@ -159,7 +159,7 @@ pub inserted_store : (rows : List CountedRow) (of : List Row) (o : ObjId) (w : O
 inserted_store rows of o w a new = reordered_store _ (to_front (new_row o w) rows) (store_with rows of a (new_row o w) (new_has_no_name rows o new))
 
 -- a row that moves to the end of the list is changed in its place, up to order
-no_name_stays : (rows : List CountedRow) (o : ObjId) → has_name (names (plain rows)) o ≡ false → without_row rows o ≡ rows
+pub no_name_stays : (rows : List CountedRow) (o : ObjId) → has_name (names (plain rows)) o ≡ false → without_row rows o ≡ rows
 no_name_stays [] o h = refl
 no_name_stays (c ∷ cs) o h =
     let n = neither (is_named o c) (has_name (names (plain cs)) o) h in

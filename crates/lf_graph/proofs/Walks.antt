@@ -104,7 +104,7 @@ filter_apart p q h (x ∷ xs) =
       | false ↦ λ e. filter_apart p q h xs
     ] refl
 
-filter_within : {X : Type 0} (p q : X → Bool) → ((x : X) → p x ≡ true → q x ≡ true) → (xs : List X) → filter p (filter q xs) ≡ filter p xs
+pub filter_within : {X : Type 0} (p q : X → Bool) → ((x : X) → p x ≡ true → q x ≡ true) → (xs : List X) → filter p (filter q xs) ≡ filter p xs
 filter_within p q h [] = refl
 filter_within p q h (x ∷ xs) =
     elim (q x) as (λ b. q x ≡ b → filter p (cond b (x ∷ filter q xs) (filter q xs)) ≡ cond (p x) (x ∷ filter p xs) (filter p xs)) [
@@ -127,7 +127,7 @@ not_false false e = refl
 pub none_outside : (w : Owner) (rows : List CountedRow) → rows_of w (rows_outside w rows) ≡ []
 none_outside w rows = filter_apart (is_under w) (λ c. not (is_under w c)) (λ c e. not_true (is_under w c) e) rows
 
-other_owner : (v w : Owner) (c : CountedRow) → same_owner v w ≡ false → is_under v c ≡ true → is_under w c ≡ false
+pub other_owner : (v w : Owner) (c : CountedRow) → same_owner v w ≡ false → is_under v c ≡ true → is_under w c ≡ false
 other_owner v w c d e = ap (λ (u : Owner). same_owner u w) (owner_is (c.row).owner v e) ∙ d
 
 pub round_again : (rows : List CountedRow) (v : Owner) → SameByOwner (rows_outside v rows ++ rows_of v rows) rows
@@ -148,7 +148,7 @@ round_again rows v w =
       | false ↦ λ k. refl
     ] refl
 
-no_name_filter : (p : CountedRow → Bool) (rows : List CountedRow) (o : ObjId) → row_named rows o ≡ None → row_named (filter p rows) o ≡ None
+pub no_name_filter : (p : CountedRow → Bool) (rows : List CountedRow) (o : ObjId) → row_named rows o ≡ None → row_named (filter p rows) o ≡ None
 no_name_filter p [] o e = refl
 no_name_filter p (c ∷ cs) o e =
     elim (is_named o c) as (λ b. is_named o c ≡ b → cond b (Some c) (row_named cs o) ≡ None → row_named (cond (p c) (c ∷ filter p cs) (filter p cs)) o ≡ None) [

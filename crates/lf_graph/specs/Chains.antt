@@ -1,12 +1,14 @@
 -- The rows of each owner, linked in their order: what the links and ends that are kept spell.
-use Rattle.std.specs.Prelude.{Bool, List, None, Option, Some, [], cond, false, filter, not, ℕ, ◌++◌, ◌||◌, ◌∷◌, ◌≡◌}
+use Rattle.std.specs.Prelude.{Bool, List, None, Option, Some, [], cond, false, ◌++◌, ◌∷◌, ◌≡◌}
 use Rattle.std.specs.Option.{option_map}
 use Rattle.lf_base.specs.declared.ids.ObjId.{ObjId}
 use Rattle.lf_base.specs.declared.values.Owner.{Owner}
 use Rattle.lf_base.specs.Names.{same_name, same_owner}
-use Rattle.lf_graph.specs.declared.chains.Ends.{Ends}
+use Rattle.lf_graph.specs.declared.ends.Ends.{Ends}
 use Rattle.lf_base.specs.declared.links.Link.{Link}
-use Rattle.lf_graph.specs.declared.chains.Linked.{Linked}
+use Rattle.lf_graph.specs.declared.stored_row.Linked.{Linked}
+use Rattle.lf_graph.specs.declared.stored_row.StoredRow.{StoredRow}
+use Rattle.lf_base.specs.Links as links
 use Rattle.lf_base.specs.Links.{Differ, Spells, head_or, last_or, relinked, to_next, to_prev}
 
 -- what is kept of a row
@@ -17,13 +19,21 @@ head_at heads o = heads o
 abbrev pub link_at : (ObjId → Option Linked) → ObjId → Option (Link ObjId)
 link_at heads o = option_map (λ h. h.link) (head_at heads o)
 
+-- the row without its neighbours, where there is one
+abbrev pub row_of_head : Option Linked → Option StoredRow
+row_of_head head = option_map (λ (h : Linked). h.row) head
+
+-- a row's owner, where there is one
+abbrev pub owner_of_head : Option Linked → Option Owner
+owner_of_head head = option_map (λ (r : StoredRow). r.owner) (row_of_head head)
+
+-- the row of that name
+abbrev pub row_at : (ObjId → Option Linked) → ObjId → Option StoredRow
+row_at heads o = row_of_head (head_at heads o)
+
 -- a row's owner
 abbrev pub owner_at : (ObjId → Option Linked) → ObjId → Option Owner
-owner_at heads o = option_map (λ h. h.owner) (head_at heads o)
-
--- a row's count
-abbrev pub refs_at : (ObjId → Option Linked) → ObjId → Option ℕ
-refs_at heads o = option_map (λ h. h.refs) (head_at heads o)
+owner_at heads o = owner_of_head (head_at heads o)
 
 -- the first and the last row of an owner
 abbrev pub ends_at : (Owner → Option Ends) → Owner → Option Ends
@@ -32,8 +42,7 @@ ends_at ends w = ends w
 -- only the link of one row changes
 pub record Relinks (old new : ObjId → Option Linked) (at : Option ObjId) (f : Link ObjId → Link ObjId) : Type 0 where
   pub links : (q : ObjId) → link_at new q ≡ relinked same_name (link_at old) at f q
-  pub owners : (q : ObjId) → owner_at new q ≡ owner_at old q
-  pub counts : (q : ObjId) → refs_at new q ≡ refs_at old q
+  pub rows : (q : ObjId) → row_at new q ≡ row_at old q
 
 -- only what comes after one row changes
 abbrev pub RelinksNext : (ObjId → Option Linked) → (ObjId → Option Linked) → Option ObjId → Option ObjId → Type 0
@@ -45,8 +54,7 @@ RelinksPrev old new at prev = Relinks old new at (to_prev prev)
 
 -- the name stands in the list
 abbrev pub has : ObjId → List ObjId → Bool
-has x [] = false
-has x (y ∷ ys) = same_name x y || has x ys
+has x xs = links.has same_name x xs
 
 -- the owner found is that one
 abbrev pub is_of : Owner → Option Owner → Bool
@@ -55,12 +63,11 @@ is_of w (Some v) = same_owner v w
 
 -- the names without one
 abbrev pub without : ObjId → List ObjId → List ObjId
-without x xs = filter (λ y. not (same_name x y)) xs
+without x xs = links.without same_name x xs
 
 -- the name after one
 abbrev pub after : ObjId → List ObjId → Option ObjId
-after x [] = None
-after x (y ∷ ys) = cond (same_name x y) (head_or ys None) (after x ys)
+after x xs = links.after same_name x xs
 
 -- the ends with one more row at the end
 abbrev pub ends_with : ObjId → Option Ends → Option Ends
@@ -102,3 +109,7 @@ pushed lists owner o w = cond (same_owner owner w) (lists w ++ o ∷ []) (lists 
 -- the lists without o
 abbrev pub left_without : (Owner → List ObjId) → ObjId → Owner → List ObjId
 left_without lists o w = without o (lists w)
+
+-- only the row of that name changes, or comes or goes
+abbrev pub OnlyStoredAt : (ObjId → Option Linked) → (ObjId → Option Linked) → ObjId → Option StoredRow → Type 0
+OnlyStoredAt old new o row = (q : ObjId) → row_at new q ≡ cond (same_name o q) row (row_at old q)

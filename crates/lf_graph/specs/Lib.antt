@@ -3,4 +3,9 @@ pub mod RowChanges
 pub mod Room
 pub mod Parts
 pub mod Chains
+pub mod RowTables
+pub mod RegionEnds
 pub mod ChainMaps
+pub mod Cells
+pub mod FlatRows
+pub mod FlatParts

@@ -53,6 +53,11 @@ with_row rows o w = rows ++ new_row o w ∷ []
 abbrev pub without_row : List CountedRow → ObjId → List CountedRow
 without_row rows o = filter (λ c. not (is_named o c)) rows
 
+-- the rows of those names are gone, one after the other
+abbrev pub without_rows : List CountedRow → List ObjId → List CountedRow
+without_rows rows [] = rows
+without_rows rows (o ∷ os) = without_rows (without_row rows o) os
+
 -- a row under another owner, where there is one
 abbrev pub under : Owner → Option CountedRow → List CountedRow
 under w None = []

@@ -7,12 +7,27 @@
 //! be used by its contract alone.
 //!
 //! `chains` links the rows of each owner in their order. Each of its calls but
-//! `reserve` looks at one row and its neighbours only.
+//! `reserve` looks at one row and its neighbours only. `cells` keeps the fields of all
+//! rows in one table, and links those of a row in their order.
 #![tactic(auto)]
 
 pub mod callers;
-pub mod chains;
+mod cells;
+mod chains;
+mod ends;
+mod flat_part;
+mod flat_store;
 pub mod laws;
+mod owner_ends;
+mod region_ends;
+mod row_table;
 mod store;
+mod stored_row;
+pub mod trials;
 
+pub use flat_part::FlatPart;
+pub use flat_store::FlatStore;
 pub use store::{RowHead, Store};
+
+#[cfg(test)]
+mod tests;

@@ -1,4 +1,4 @@
-use Rattle.std.proofs.Common.{sym}
+use Rattle.std.proofs.Common.{sym, ◌∙◌}
 use Rattle.lf_graph.specs.ChainMaps.{ends_of, heads_of}
 use Rattle.lf_graph.proofs.ChainLemmas.{AreChains-unlinked}
 use Rattle.lf_graph.proofs.chains.Chains.unlink.Goals as goal
@@ -6,4 +6,4 @@ use Rattle.lf_graph.proofs.chains.Chains.unlink.Goals as goal
 pub returns-clause-lists : goal.returns-clause-lists
 returns-clause-lists c lists old =
     AreChains-unlinked (heads_of c.args.self.now.rows) (heads_of c.remove.new.self) (heads_of c.set_next.new.rows) (heads_of c.set_prev.new.rows) (ends_of c.args.self.now.ends) (ends_of c.cut.new.self)
-    c.args.o c.in-Some.row lists (sym c.in-Some.ensures.value) c.remove.ensures.updates.0 c.set_next.ensures.rows c.set_prev.ensures.rows c.cut.ensures.ends old
+    c.args.o c.in-Some.field-0 lists (sym c.remove.ensures.head ∙ c.in-Some.is) c.remove.ensures.rows c.set_next.ensures.rows c.set_prev.ensures.rows c.cut.ensures.ends old

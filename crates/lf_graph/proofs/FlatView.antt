@@ -1,0 +1,169 @@
+-- The rows of a flat store are those that its lists show.
+use Rattle.std.proofs.Common.{Bool, List, None, Option, Some, [], ap, cond, false, length, map, refl, subst, sym, true, ℕ, zero, suc, ◌||◌, ◌≤◌, ◌++◌, ◌∙◌, ◌∷◌, ◌≡◌}
+use Rattle.std.specs.Cmp.{IsEquivalence, both_ways}
+use Rattle.std.specs.List.{AllByRecursion, IsDistinct, list_any}
+use Rattle.std.specs.Map.{keys_of, lookup}
+use Rattle.std.specs.HashMap.{hash_map_len}
+use Rattle.std.specs.Option.{IsSome, option_map}
+use Rattle.std.proofs.lemmas.Map.Keys.{IsDistinct-cons, IsDistinct-head, IsDistinct-tail}
+use Rattle.std.proofs.lemmas.Map.Steps.{length-le_from_keys}
+use Rattle.slab.specs.Slab.{Slab}
+use Rattle.lf_base.specs.declared.ids.ObjId.{ObjId}
+use Rattle.lf_base.specs.declared.values.Key.{Key}
+use Rattle.lf_base.specs.declared.values.Owner.{Owner}
+use Rattle.lf_base.specs.declared.values.Owner.TheVariants.{Frozen, In, Local}
+use Rattle.lf_base.specs.Links.{Differ, Lacks, has, walk}
+use Rattle.lf_base.specs.Names.{same_name, same_owner}
+use Rattle.lf_base.proofs.LinkedLists.{walk-Spells}
+use Rattle.lf_base.proofs.Names.{Decides-same_name, same_name_is, same_name_itself}
+use Rattle.lf_graph.specs.declared.cells.Cell.{Cell}
+use Rattle.lf_graph.specs.declared.cells.Cells.{Cells}
+use Rattle.lf_graph.specs.declared.chains.Chains.{Chains}
+use Rattle.lf_graph.specs.declared.ends.Ends.{Ends}
+use Rattle.lf_graph.specs.declared.stored_row.Linked.{Linked}
+use Rattle.lf_graph.specs.declared.stored_row.StoredRow.{StoredRow}
+use Rattle.lf_graph.specs.Cells.{cells_of}
+use Rattle.lf_graph.specs.ChainMaps.{ends_of, heads_of}
+use Rattle.lf_graph.specs.Chains.{AreChains, IsChain, is_of, link_at, owner_at, owner_of_head, row_at}
+use Rattle.lf_graph.specs.FlatRows.{chain_of, counted_at, counted_by, flat_rows, region_rows, rows_under}
+use Rattle.lf_graph.specs.RowTables.{head_by, key_of}
+use Rattle.lf_graph.specs.StoredRows.{CountedRow, rows_of}
+use Rattle.lf_graph.proofs.ChainLemmas.{name_flips}
+use Rattle.lf_graph.proofs.Reordered.{owner_is, owner_itself, rows_append}
+use Rattle.lf_graph.proofs.Shown.{Names, Shows}
+
+-- ---- a chain is no longer than the table
+names_equal : IsEquivalence same_name
+names_equal = record {
+  refl = same_name_itself;
+  symm = λ x y. both_ways (same_name x y) (same_name y x) (turned x y) (turned y x);
+  congr = λ x y z e. ap (λ u. same_name u z) (same_name_is x y e);
+} where
+  turned : (x y : ObjId) → same_name x y ≡ true → same_name y x ≡ true
+  turned x y e = (Decides-same_name y x).1 (sym (same_name_is x y e))
+
+apart : (x : ObjId) (xs : List ObjId) → Lacks same_name x xs → AllByRecursion (λ y. same_name x y ≡ false) xs
+apart x [] l = tt
+apart x (y ∷ ys) l = (l.0, apart x ys l.1)
+
+distinct : (xs : List ObjId) → Differ same_name xs → IsDistinct same_name xs
+unfolding IsDistinct
+distinct [] d = tt
+distinct (x ∷ xs) d = IsDistinct-cons same_name x xs (apart x xs d.0) (distinct xs d.1)
+
+any_has : (q : ObjId) (xs : List ObjId) → list_any (same_name q) xs ≡ has same_name q xs
+any_has q [] = refl
+any_has q (x ∷ xs) = ap (λ b. same_name q x || b) (any_has q xs)
+
+has_key : (w : Owner) (rows : Slab Linked) (t : Option ℕ) → is_of w (owner_of_head (head_by rows t)) ≡ true → IsSome t
+has_key w rows None e = cc
+has_key w rows (Some k) e = refl
+
+module _ (t : Chains) where
+  fits : (w : Owner) (xs : List ObjId) → IsChain (heads_of t.rows) (ends_of t.ends) w xs → length xs ≤ hash_map_len (t.rows).index
+  fits w xs c = length-le_from_keys names_equal xs ((t.rows).index).entries (distinct xs c.differ)
+      (λ q h. has_key w (t.rows).rows (key_of (t.rows).index q) (sym (c.members q) ∙ sym (any_has q xs) ∙ h))
+
+  -- the walk gives the list that the links spell
+  pub chain_is : (w : Owner) (xs : List ObjId) → IsChain (heads_of t.rows) (ends_of t.ends) w xs → chain_of t w ≡ xs
+  chain_is w xs c = ap (walk (hash_map_len (t.rows).index) (link_at (heads_of t.rows))) c.first ∙ walk-Spells (hash_map_len (t.rows).index) (link_at (heads_of t.rows)) None xs c.links (fits w xs c)
+
+-- ---- by owner
+counted_name : (cells : ObjId → Key → Option Cell) (x : ObjId) (r : Option StoredRow) → ((counted_by cells x r).row).name ≡ x
+counted_name cells x None = refl
+counted_name cells x (Some r) = refl
+
+pub counted_owner : (cells : ObjId → Key → Option Cell) (v : Owner) (x : ObjId) (r : Option StoredRow) → is_of v (option_map (λ (s : StoredRow). s.owner) r) ≡ true → ((counted_by cells x r).row).owner ≡ v
+counted_owner cells v x None h = cc
+counted_owner cells v x (Some r) h = owner_is r.owner v h
+
+nil_either : {X : Type 0} (b : Bool) → [] ≡ cond {A = List X} b [] []
+nil_either true = refl
+nil_either false = refl
+
+cons_either : {X : Type 0} (b : Bool) (r : X) (xs ys : List X) → xs ≡ cond b ys [] → cond b (r ∷ xs) xs ≡ cond b (r ∷ ys) []
+cons_either true r xs ys h = ap (λ t. r ∷ t) h
+cons_either false r xs ys h = h
+
+or_true : (b : Bool) → (b || true) ≡ true
+or_true true = refl
+or_true false = refl
+
+nil_right : {X : Type 0} (xs : List X) → xs ++ [] ≡ xs
+nil_right [] = refl
+nil_right (x ∷ xs) = ap (λ t. x ∷ t) (nil_right xs)
+
+owner_flips : (v w : Owner) → same_owner v w ≡ false → same_owner w v ≡ false
+owner_flips v w n = elim (same_owner w v) as (λ t. same_owner w v ≡ t → t ≡ false) [
+  | true ↦ λ h. let k : same_owner v w ≡ true = ap (λ u. same_owner v u) (owner_is w v h) ∙ owner_itself v in cc (k, n)
+  | false ↦ λ h. refl
+] refl
+
+module _ (t : Chains) (cells : Cells) where
+  abbrev row : ObjId → CountedRow
+  row = counted_at (heads_of t.rows) (cells_of cells)
+
+  pub row_names : Names row
+  row_names x = counted_name (cells_of cells) x (row_at (heads_of t.rows) x)
+
+  owned_rows : (v w : Owner) (xs : List ObjId) → ((q : ObjId) → has same_name q xs ≡ true → is_of v (owner_at (heads_of t.rows) q) ≡ true) → rows_of w (map row xs) ≡ cond (same_owner v w) (map row xs) []
+  owned_rows v w [] h = nil_either (same_owner v w)
+  owned_rows v w (x ∷ xs) h =
+      ap (λ u. cond (same_owner u w) (row x ∷ rows_of w (map row xs)) (rows_of w (map row xs))) (counted_owner (cells_of cells) v x (row_at (heads_of t.rows) x) (h x (ap (λ b. b || has same_name x xs) (same_name_itself x))))
+      ∙ cons_either (same_owner v w) (row x) (rows_of w (map row xs)) (map row xs) (owned_rows v w xs (λ q k. h q (ap (λ b. same_name q x || b) k ∙ or_true (same_name q x))))
+
+  module _ (chains : AreChains (heads_of t.rows) (ends_of t.ends) (chain_of t)) where
+    under_rows : (v w : Owner) → rows_of w (rows_under t cells v) ≡ cond (same_owner v w) (rows_under t cells v) []
+    under_rows v w = owned_rows v w (chain_of t v) (λ q h. sym ((chains v).members q) ∙ h)
+
+    -- an owner of none of these has none
+    none_among : (w : Owner) (es : List (ObjId × Ends)) → AllByRecursion (λ r. same_owner w (In r) ≡ false) (keys_of es) → rows_of w (region_rows t cells es) ≡ []
+    none_among w [] h = refl
+    none_among w (e ∷ es) h =
+        rows_append w (rows_under t cells (In e.0)) (region_rows t cells es)
+        ∙ ap (λ l. l ++ rows_of w (region_rows t cells es)) (under_rows (In e.0) w ∙ ap (λ b. cond b (rows_under t cells (In e.0)) []) (owner_flips w (In e.0) h.0))
+        ∙ none_among w es h.1
+
+    among : (r : ObjId) (es : List (ObjId × Ends)) → IsDistinct same_name (keys_of es) → IsSome (lookup (same_name r) es) → rows_of (In r) (region_rows t cells es) ≡ rows_under t cells (In r)
+    among r [] d s = cc
+    among r (e ∷ es) d s =
+        rows_append (In r) (rows_under t cells (In e.0)) (region_rows t cells es)
+        ∙ ap (λ l. l ++ rows_of (In r) (region_rows t cells es)) (under_rows (In e.0) (In r))
+        ∙ (elim (same_name r e.0) as (λ b. same_name r e.0 ≡ b → IsSome (cond b (Some e.1) (lookup (same_name r) es)) → cond (same_name e.0 r) (rows_under t cells (In e.0)) [] ++ rows_of (In r) (region_rows t cells es) ≡ rows_under t cells (In r)) [
+          | true ↦ λ k _. let p = same_name_is r e.0 k in
+              ap (λ l. cond (same_name e.0 r) (rows_under t cells (In e.0)) [] ++ l) (none_among (In r) es (subst (λ u. AllByRecursion (λ v. same_name u v ≡ false) (keys_of es)) (sym p) (IsDistinct-head same_name e.0 (keys_of es) d)))
+              ∙ ap (λ u. cond (same_name u r) (rows_under t cells (In u)) [] ++ []) (sym p) ∙ ap (λ b. cond b (rows_under t cells (In r)) [] ++ []) (same_name_itself r) ∙ nil_right (rows_under t cells (In r))
+          | false ↦ λ k s. ap (λ b. cond b (rows_under t cells (In e.0)) [] ++ rows_of (In r) (region_rows t cells es)) (name_flips r e.0 k) ∙ among r es (IsDistinct-tail same_name e.0 (keys_of es) d) s
+        ] refl s)
+
+    not_found : (r : ObjId) (es : List (ObjId × Ends)) → lookup (same_name r) es ≡ None → AllByRecursion (λ q. same_name r q ≡ false) (keys_of es)
+    not_found r [] h = tt
+    not_found r (e ∷ es) h = elim (same_name r e.0) as (λ b. same_name r e.0 ≡ b → cond b (Some e.1) (lookup (same_name r) es) ≡ None → AllByRecursion (λ q. same_name r q ≡ false) (keys_of (e ∷ es))) [
+      | true ↦ λ _ k. cc
+      | false ↦ λ f k. (f, not_found r es k)
+    ] refl h
+
+    never : (w : Owner) (es : List (ObjId × Ends)) → ((r : ObjId) → same_owner w (In r) ≡ false) → AllByRecursion (λ r. same_owner w (In r) ≡ false) (keys_of es)
+    never w [] h = tt
+    never w (e ∷ es) h = (h e.0, never w es h)
+
+    walk_none : (n : ℕ) → walk n (link_at (heads_of t.rows)) None ≡ []
+    walk_none zero = refl
+    walk_none (suc n) = refl
+
+    abbrev regions : List (ObjId × Ends)
+    regions = ((t.ends).regions).ends.entries
+
+    region_has : (r : ObjId) (x : Option Ends) → lookup (same_name r) regions ≡ x → rows_of (In r) (region_rows t cells regions) ≡ rows_under t cells (In r)
+    region_has r None n = none_among (In r) regions (not_found r regions n) ∙ ap (map row) (sym (walk_none (hash_map_len (t.rows).index)) ∙ ap (λ x. walk (hash_map_len (t.rows).index) (link_at (heads_of t.rows)) (option_map (λ (y : Ends). y.first) x)) (sym n))
+    region_has r (Some x) n = among r regions (((t.ends).regions).unique) (subst IsSome (sym n) refl)
+
+    two : (w : Owner) → rows_of w (flat_rows t cells) ≡ cond (same_owner Local w) (rows_under t cells Local) [] ++ (cond (same_owner Frozen w) (rows_under t cells Frozen) [] ++ rows_of w (region_rows t cells regions))
+    two w = rows_append w (rows_under t cells Local) (rows_under t cells Frozen ++ region_rows t cells regions) ∙ ap (λ l. rows_of w (rows_under t cells Local) ++ l) (rows_append w (rows_under t cells Frozen) (region_rows t cells regions))
+        ∙ (λ i. under_rows Local w i ++ (under_rows Frozen w i ++ rows_of w (region_rows t cells regions)))
+
+    -- each owner's rows are its chain's
+    pub flat_shown : Shows (flat_rows t cells) (chain_of t) row
+    flat_shown Local = two Local ∙ ap (λ l. rows_under t cells Local ++ l) (none_among Local regions (never Local regions (λ _. refl))) ∙ nil_right (rows_under t cells Local)
+    flat_shown Frozen = two Frozen ∙ ap (λ l. rows_under t cells Frozen ++ l) (none_among Frozen regions (never Frozen regions (λ _. refl))) ∙ nil_right (rows_under t cells Frozen)
+    flat_shown (In r) = two (In r) ∙ region_has r (lookup (same_name r) regions) refl

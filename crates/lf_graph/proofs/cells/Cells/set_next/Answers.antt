@@ -1,0 +1,7 @@
+use Rattle.lf_base.specs.Links.{to_next}
+use Rattle.lf_graph.proofs.CellMaps.{cells_relinked, names_agree}
+use Rattle.lf_graph.proofs.cells.Cells.set_next.Goals as goal
+
+pub returns-in-Some-get_mut-clause-cells : goal.returns-in-Some-get_mut-clause-cells
+returns-in-Some-get_mut-clause-cells c =
+    cells_relinked _ names_agree c.args.self.now.cells _ c.args.o c.args.at c.in-Some.key c.in-Some-get_mut.cell.now (to_next c.args.next) c.in-Some.is c.in-Some-get_mut.ensures.value (c.get_mut.follows.holds _)

@@ -1,0 +1,16 @@
+use Rattle.std.proofs.Common.{refl, subst}
+use Rattle.lf_graph.specs.Cells.{cells_of, walked_keys}
+use Rattle.lf_graph.specs.ChainMaps.{heads_of}
+use Rattle.lf_graph.specs.FlatRows.{KeepsFields}
+use Rattle.lf_graph.proofs.PartRows.{copies_row, is_part_row}
+use Rattle.lf_graph.proofs.flat_part.copied_row.Goals as goal
+
+pub returns-clause-part : goal.returns-clause-part
+returns-clause-part c =
+    let list = subst (KeepsFields (cells_of c.args.cells.now) c.args.o) c.row-stored.ensures.row (c.requires.flat.fields c.args.o) in
+    is_part_row (cells_of c.args.cells.now) c.args.o c.row-stored.result.fields (walked_keys (cells_of c.args.cells.now) c.args.o c.row-stored.result.fields) _ list refl (c.in_ok-fields.ensures (walked_keys (cells_of c.args.cells.now) c.args.o c.row-stored.result.fields) list)
+
+pub returns-clause-copy : goal.returns-clause-copy
+returns-clause-copy c =
+    let list = subst (KeepsFields (cells_of c.args.cells.now) c.args.o) c.row-stored.ensures.row (c.requires.flat.fields c.args.o) in
+    copies_row (heads_of c.args.chains.now.rows) (cells_of c.args.cells.now) c.args.o c.row-stored.result c.in_ok-fields.fields c.row-stored.ensures.row (c.in_ok-fields.ensures (walked_keys (cells_of c.args.cells.now) c.args.o c.row-stored.result.fields) list)
