@@ -1,0 +1,142 @@
+//! Measures the flat store: `lf_bench N` makes N rows, links each to the one before,
+//! gives all to a region, walks over them and drops them. It writes the number of rows of
+//! each step to standard output, and the time so far to standard error.
+//!
+//! It stands on `lf_graph`, whose calls it makes by `trials`, so that it needs no proof of
+//! its own about rows.
+#![tactic(auto)]
+
+ghost use Rattle.std.specs.Prelude.{◌≡◌, ◌<◌};
+
+use lf_base::{Key, ObjId, OutOfMemory, Owner, Steps, Value};
+use lf_graph::trials::{next_of, offer_field, offer_owner, offer_ref, offer_row, withdraw_row};
+use lf_graph::{FlatStore, Store};
+use std::marker::Brand;
+use std::process::ExitCode;
+use std::rt::{Clock, Env};
+use std::sync::ledger::{Blank, Ledger};
+use std::time::Instant;
+use std::{env, io};
+
+const REGION: Owner = Owner::In(ObjId { birth: 0, seq: 0 });
+
+const LINK: Key = Key::Int(0);
+
+// The row of a number.
+const fn row(seq: u32) -> ObjId {
+    ObjId { birth: 0, seq }
+}
+
+fn make<S: Store, L: Ledger>(
+    store: &mut S,
+    count: u32,
+    steps: &mut Steps<L>,
+) -> Result<(), OutOfMemory> {
+    for seq in 0..count {
+        offer_row(store, row(seq), Owner::Local, steps)?;
+    }
+    Ok(())
+}
+
+fn link<S: Store, L: Ledger>(
+    store: &mut S,
+    count: u32,
+    steps: &mut Steps<L>,
+) -> Result<(), OutOfMemory> {
+    for seq in 1..count {
+        let before = row(seq - 1);
+        offer_field(store, row(seq), LINK, Value::Obj(before), steps)?;
+        offer_ref(store, before, steps);
+    }
+    Ok(())
+}
+
+fn give<S: Store, L: Ledger>(
+    store: &mut S,
+    count: u32,
+    steps: &mut Steps<L>,
+) -> Result<(), OutOfMemory> {
+    for seq in 0..count {
+        offer_owner(store, row(seq), REGION, steps)?;
+    }
+    Ok(())
+}
+
+// The number of a region's rows, no more than `count`.
+fn walk<S: Store, L: Ledger>(store: &S, count: u32, steps: &mut Steps<L>) -> u32 {
+    let mut at = store.first(REGION, steps);
+    for walked in 0..count {
+        let Some(o) = at else {
+            return walked;
+        };
+        at = next_of(store, o, steps);
+    }
+    count
+}
+
+fn drop_all<S: Store, L: Ledger>(store: &mut S, count: u32, steps: &mut Steps<L>) {
+    for seq in 0..count {
+        withdraw_row(store, row(seq), steps);
+    }
+}
+
+fn report<R: Print + Eprint + Clock + AllocGlobal>(
+    rt: &R,
+    step: &str,
+    rows: u32,
+    start: &Instant,
+) -> io::Result<()> {
+    println!(rt; "{step} {rows}")?;
+    let millis = start.elapsed(rt)?.as_millis();
+    eprintln!(rt; "{step} after {millis} ms")
+}
+
+// Makes, links, gives, walks over and drops so many rows.
+fn measure<S: Store, L: Ledger, R: Print + Eprint + Clock + AllocGlobal>(
+    rt: &R,
+    count: u32,
+    blank: Blank,
+) -> io::Result<()>
+    requires name { blank.name ≡ L.name }
+    requires parts { blank.parts ≡ L.parts }
+    requires some { 0 < L.parts }
+{
+    let start = Instant::now(rt)?;
+    let mut steps = Steps::<L>::new(blank);
+    let Ok(mut store) = S::new(rt.alloc()) else {
+        return report(rt, "no memory", 0, &start);
+    };
+    if make(&mut store, count, &mut steps).is_err() {
+        return report(rt, "no memory", 0, &start);
+    }
+    report(rt, "made", count, &start)?;
+    if link(&mut store, count, &mut steps).is_err() {
+        return report(rt, "no memory", 0, &start);
+    }
+    report(rt, "linked", count, &start)?;
+    if give(&mut store, count, &mut steps).is_err() {
+        return report(rt, "no memory", 0, &start);
+    }
+    report(rt, "given", walk(&store, count, &mut steps), &start)?;
+    drop_all(&mut store, count, &mut steps);
+    report(rt, "left", walk(&store, count, &mut steps), &start)
+}
+
+// The number of rows: the first argument.
+fn count<R: Env + AllocGlobal>(rt: &R) -> Option<u32> {
+    let args = env::args(rt).ok()?;
+    for arg in args.skip(1) {
+        return arg.parse::<u32>().ok();
+    }
+    None
+}
+
+fn main(rt: HostRuntime) -> ExitCode {
+    let Some(count) = count(&rt) else {
+        return ExitCode::from(2);
+    };
+    match measure::<FlatStore, Brand, _>(&rt, count, Blank::new(1)) {
+        Ok(()) => ExitCode::SUCCESS,
+        Err(_error) => ExitCode::FAILURE,
+    }
+}
