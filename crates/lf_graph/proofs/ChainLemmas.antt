@@ -3,7 +3,6 @@ use Rattle.std.proofs.Common.{◌≡◌, Bool, true, false, not, cond, ◌||◌,
 use Rattle.std.specs.Option.{option_map}
 use Rattle.lf_base.specs.declared.ids.ObjId.{ObjId}
 use Rattle.lf_base.specs.declared.values.Owner.{Owner}
-use Rattle.lf_base.specs.declared.values.Owner.TheVariants.{Local, In, Frozen}
 use Rattle.lf_base.specs.Names.{same_name, same_owner}
 use Rattle.lf_base.proofs.Names.{Decides-same_name, same_name_is}
 use Rattle.lf_base.specs.declared.links.Link.{Link}
@@ -13,23 +12,8 @@ use Rattle.lf_graph.specs.declared.ends.Ends.{Ends}
 use Rattle.lf_base.specs.Links.{link, head_or, last_or, Spells, to_next, to_prev, Lacks, LacksAt, Differ, relinked, unlinked}
 use Rattle.lf_graph.specs.Chains.{head_at, link_at, owner_at, owner_of_head, row_at, row_of_head, ends_at, Relinks, OnlyRowAt, OnlyStoredAt}
 use Rattle.lf_graph.specs.Chains.{has, is_of, without, after, ends_with, ends_without, IsChain, AreChains}
+use Rattle.lf_graph.proofs.Reordered.{owner_is, owner_itself}
 use Rattle.lf_base.proofs.LinkedLists.{Lacks-from_has, has-append, relinked-agree, has-from_Lacks, without-lacking, Spells-same, Spells-at, Spells-kept, Spells-relinked, Spells-pushed, Spells-unlinked, Differ-without}
-
-pub owner_is : (v w : Owner) → same_owner v w ≡ true → v ≡ w
-owner_is Local Local e = refl
-owner_is Local (In b) e = cc
-owner_is Local Frozen e = cc
-owner_is (In a) Local e = cc
-owner_is (In a) (In b) e = ap In (same_name_is a b e)
-owner_is (In a) Frozen e = cc
-owner_is Frozen Local e = cc
-owner_is Frozen (In b) e = cc
-owner_is Frozen Frozen e = refl
-
-pub owner_itself : (w : Owner) → same_owner w w ≡ true
-owner_itself Local = refl
-owner_itself Frozen = refl
-owner_itself (In r) = (Decides-same_name r r).1 refl
 
 or_false : (b : Bool) → (b || false) ≡ b
 or_false true = refl

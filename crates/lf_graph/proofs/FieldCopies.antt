@@ -13,6 +13,7 @@ use Rattle.lf_graph.specs.Cells.{CopiesField, IsFieldList, OnlyValueAt, OthersSt
 use Rattle.lf_graph.proofs.CellLists.{pair_at}
 use Rattle.lf_graph.proofs.CellMaps.{Decides-same_key}
 use Rattle.lf_graph.proofs.FieldPairs.{pairs_apart}
+use Rattle.lf_graph.proofs.Shown.{map_push}
 use Rattle.lf_base.proofs.MovedRows.{same_key_itself}
 
 abbrev CellsAt : Type 0
@@ -90,14 +91,6 @@ new_key [] i f d e = cc
 new_key (g ∷ gs) zero f d e = tt
 new_key (g ∷ gs) (suc i) f d e = (flipped same_key Decides-same_key g.0 f.0 (lacks_found g.0 gs i f d.0 e), new_key gs i f d.1 e)
 
-keys_push : (xs : List (Key × Value)) (f : Key × Value) → keys_of (xs ++ f ∷ []) ≡ keys_of xs ++ f.0 ∷ []
-keys_push [] f = refl
-keys_push (x ∷ xs) f = ap (λ l. x.0 ∷ l) (keys_push xs f)
-
-pairs_push : (m : CellsAt) (o : ObjId) (xs : List Key) (k : Key) → pairs m o (xs ++ k ∷ []) ≡ pairs m o xs ++ paired m o k ∷ []
-pairs_push m o [] k = refl
-pairs_push m o (x ∷ xs) k = ap (λ l. paired m o x ∷ l) (pairs_push m o xs k)
-
 module _ (old now new : CellsAt) (o : ObjId) (ends after : FieldEnds) (fields : List (Key × Value)) (i : ℕ) (f : Key × Value) (here : slice_get fields i ≡ Some f) (differ : Differ same_key (keys_of fields)) (puts : Puts old now o ends fields i) where
   lacks : Lacks same_key f.0 (keys_of (take i fields))
   lacks = new_key fields i f differ here
@@ -110,7 +103,7 @@ module _ (old now new : CellsAt) (o : ObjId) (ends after : FieldEnds) (fields : 
 
   module _ (list : IsFieldList new o after (keys_of (take i fields) ++ f.0 ∷ [])) (value : OnlyValueAt now new o f.0 (Some f.1)) (others : OthersStay now new o) where
     keys_after : keys_of (take (i + 1) fields) ≡ keys_of (take i fields) ++ f.0 ∷ []
-    keys_after = ap keys_of (take_more fields i f here) ∙ keys_push (take i fields) f
+    keys_after = ap keys_of (take_more fields i f here) ∙ map_push (λ (x : Key × Value). x.0) (take i fields) f
 
     pair_here : paired new o f.0 ≡ f
     pair_here = ap (λ v. (f.0, found_value v)) (value f.0 ∙ ap (λ b. cond b (Some f.1) (value_of now o f.0)) (same_key_itself f.0))
@@ -118,7 +111,7 @@ module _ (old now new : CellsAt) (o : ObjId) (ends after : FieldEnds) (fields : 
     pub one_put : Puts old new o after fields (i + 1)
     one_put = record {
       list = subst (IsFieldList new o after) (sym keys_after) list;
-      values = ap (pairs new o) keys_after ∙ pairs_push new o (keys_of (take i fields)) f.0
+      values = ap (pairs new o) keys_after ∙ map_push (paired new o) (keys_of (take i fields)) f.0
           ∙ (λ j. (pairs_apart now new o f.0 (Some f.1) value (keys_of (take i fields)) lacks ∙ puts.values) j ++ pair_here j ∷ [])
           ∙ sym (take_more fields i f here);
       others = λ q k n. others q k n ∙ puts.others q k n;

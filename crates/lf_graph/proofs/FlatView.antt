@@ -28,9 +28,9 @@ use Rattle.lf_graph.specs.Chains.{AreChains, IsChain, is_of, link_at, owner_at, 
 use Rattle.lf_graph.specs.FlatRows.{chain_of, counted_at, counted_by, flat_rows, region_rows, rows_under}
 use Rattle.lf_graph.specs.RowTables.{head_by, key_of}
 use Rattle.lf_graph.specs.StoredRows.{CountedRow, rows_of}
-use Rattle.lf_graph.proofs.ChainLemmas.{name_flips}
+use Rattle.lf_graph.proofs.ChainLemmas.{name_flips, or_true}
 use Rattle.lf_graph.proofs.Reordered.{owner_is, owner_itself, rows_append}
-use Rattle.lf_graph.proofs.Shown.{Names, Shows}
+use Rattle.lf_graph.proofs.Shown.{nil_right, Names, Shows}
 
 -- ---- a chain is no longer than the table
 names_equal : IsEquivalence same_name
@@ -85,15 +85,7 @@ cons_either : {X : Type 0} (b : Bool) (r : X) (xs ys : List X) → xs ≡ cond b
 cons_either true r xs ys h = ap (λ t. r ∷ t) h
 cons_either false r xs ys h = h
 
-or_true : (b : Bool) → (b || true) ≡ true
-or_true true = refl
-or_true false = refl
-
-nil_right : {X : Type 0} (xs : List X) → xs ++ [] ≡ xs
-nil_right [] = refl
-nil_right (x ∷ xs) = ap (λ t. x ∷ t) (nil_right xs)
-
-owner_flips : (v w : Owner) → same_owner v w ≡ false → same_owner w v ≡ false
+pub owner_flips : (v w : Owner) → same_owner v w ≡ false → same_owner w v ≡ false
 owner_flips v w n = elim (same_owner w v) as (λ t. same_owner w v ≡ t → t ≡ false) [
   | true ↦ λ h. let k : same_owner v w ≡ true = ap (λ u. same_owner v u) (owner_is w v h) ∙ owner_itself v in cc (k, n)
   | false ↦ λ h. refl

@@ -1,5 +1,5 @@
 -- Rows that go out of a store and come back into it, one after the other.
-use Rattle.std.proofs.Common.{Bool, List, None, Option, Some, [], ap, arith, cond, false, is_some, map, not, refl, slice_get, subst, sym, take, true, ℕ, suc, zero, ◌+◌, ◌≤◌, ◌||◌, ◌++◌, ◌∙◌, ◌∷◌, ◌≡◌}
+use Rattle.std.proofs.Common.{List, None, Option, Some, [], ap, arith, cond, false, is_some, map, not, refl, slice_get, subst, sym, take, true, ℕ, suc, zero, ◌+◌, ◌≤◌, ◌||◌, ◌++◌, ◌∙◌, ◌∷◌, ◌≡◌}
 use Rattle.std.specs.Option.{IfSome, IsSome}
 use Rattle.lf_base.specs.declared.ids.ObjId.{ObjId}
 use Rattle.lf_base.specs.declared.values.Owner.{Owner}
@@ -19,13 +19,13 @@ use Rattle.lf_graph.specs.FlatRows.{IsFlat, StoreView, chain_of, counted_at, fla
 use Rattle.lf_graph.specs.Parts.{AllNew}
 use Rattle.lf_graph.specs.RowChanges.{without_row, without_rows}
 use Rattle.lf_graph.specs.StoredRows.{CountedRow, HasRow, IsNewName, SameByOwner, is_named, is_under, row_named, rows_of, rows_outside}
-use Rattle.lf_graph.proofs.ChainLemmas.{other_owner}
+use Rattle.lf_graph.proofs.ChainLemmas.{or_true, other_owner}
 use Rattle.lf_graph.proofs.Changes.{found_append, or_else, same_append, same_filter}
 use Rattle.lf_graph.proofs.FieldCopies.{take_more}
 use Rattle.lf_graph.proofs.FlatFound.{shown}
-use Rattle.lf_graph.proofs.FlatView.{row_names}
-use Rattle.lf_graph.proofs.Reordered.{owner_is, owner_itself}
-use Rattle.lf_graph.proofs.Shown.{Names, Shows, shown_without, under_its_owner}
+use Rattle.lf_graph.proofs.FlatView.{owner_flips, row_names}
+use Rattle.lf_graph.proofs.Reordered.{owner_is}
+use Rattle.lf_graph.proofs.Shown.{map_push, nil_right, Names, Shows, shown_without, under_its_owner}
 use Rattle.lf_graph.proofs.Walks.{filter_within, no_name_filter, none_outside}
 
 -- a new name is new where each owner has the same rows
@@ -39,22 +39,15 @@ same_new xs ys o same new = go (row_named xs o) refl where
       cc
 
 -- ---- out
-names_of : List PartRow → List ObjId
-names_of rows = map (λ (r : PartRow). r.name) rows
-
 without_push : (rows : List CountedRow) (os : List ObjId) (o : ObjId) → without_rows rows (os ++ o ∷ []) ≡ without_row (without_rows rows os) o
 without_push rows [] o = refl
 without_push rows (x ∷ xs) o = without_push (without_row rows x) xs o
-
-names_push : (rows : List PartRow) (r : PartRow) → map (λ (x : PartRow). x.name) (rows ++ r ∷ []) ≡ map (λ (x : PartRow). x.name) rows ++ r.name ∷ []
-names_push [] r = refl
-names_push (x ∷ xs) r = ap (λ l. x.name ∷ l) (names_push xs r)
 
 pub one_dropped : (old now new : List CountedRow) (rows : List PartRow) (i : ℕ) (r : PartRow) → slice_get rows i ≡ Some r → SameByOwner now (without_rows old (map (λ (x : PartRow). x.name) (take i rows))) → SameByOwner new (without_row now r.name)
     → SameByOwner new (without_rows old (map (λ (x : PartRow). x.name) (take (i + 1) rows)))
 one_dropped old now new rows i r here was step w =
     step w ∙ same_filter now (without_rows old (map (λ (x : PartRow). x.name) (take i rows))) was (λ c. not (is_named r.name c)) w
-    ∙ ap (rows_of w) (sym (without_push old (map (λ (x : PartRow). x.name) (take i rows)) r.name) ∙ ap (without_rows old) (sym (ap (map (λ (x : PartRow). x.name)) (take_more rows i r here) ∙ names_push (take i rows) r)))
+    ∙ ap (rows_of w) (sym (without_push old (map (λ (x : PartRow). x.name) (take i rows)) r.name) ∙ ap (without_rows old) (sym (ap (map (λ (x : PartRow). x.name)) (take_more rows i r here) ∙ map_push (λ (x : PartRow). x.name) (take i rows) r)))
 
 pub none_dropped : (old : List CountedRow) (rows : List PartRow) → SameByOwner old (without_rows old (map (λ (x : PartRow). x.name) (take 0 rows)))
 none_dropped old [] w = refl
@@ -75,10 +68,6 @@ lacks_none [] xs h = refl
 lacks_none (o ∷ os) xs h =
     ap (without_all os) (without-lacking same_name Decides-same_name o xs (Lacks-from_has same_name Decides-same_name o xs (h o (ap (λ b. b || has same_name o os) (same_name_itself o)))))
     ∙ lacks_none os xs (λ q e. h q (ap (λ b. same_name q o || b) e ∙ or_true (same_name q o)))
-  where
-    or_true : (b : Bool) → (b || true) ≡ true
-    or_true true = refl
-    or_true false = refl
 
 all_gone : (xs : List ObjId) → Differ same_name xs → without_all xs xs ≡ []
 all_gone [] d = refl
@@ -88,12 +77,7 @@ all_gone (x ∷ xs) d =
 outside_other : (v w : Owner) (rows : List CountedRow) → same_owner v w ≡ false → rows_of w (rows_outside v rows) ≡ rows_of w rows
 outside_other v w rows n = filter_within (is_under w) (λ c. not (is_under v c)) each rows where
   each : (c : CountedRow) → is_under w c ≡ true → not (is_under v c) ≡ true
-  each c e = let p : (c.row).owner ≡ w = owner_is (c.row).owner w e in ap not (ap (λ u. same_owner u v) p ∙ flipped) where
-    flipped : same_owner w v ≡ false
-    flipped = elim (same_owner w v) as (λ b. same_owner w v ≡ b → b ≡ false) [
-      | true ↦ λ t. let k : same_owner v w ≡ true = ap (λ u. same_owner v u) (owner_is w v t) ∙ owner_itself v in cc (k, n)
-      | false ↦ λ _. refl
-    ] refl
+  each c e = let p : (c.row).owner ≡ w = owner_is (c.row).owner w e in ap not (ap (λ u. same_owner u v) p ∙ owner_flips v w n)
 
 module _ (t : Chains) (cells : Cells) (flat : IsFlat t cells) (v : StoreView) (is : record { rows = flat_rows t cells; spare = flat_room t cells } ≡ v) (region : ObjId) where
   abbrev row : ObjId → CountedRow
@@ -137,10 +121,6 @@ pub same_all_new : (part xs ys : List CountedRow) → SameByOwner xs ys → AllN
 same_all_new part xs ys same new o h = same_new xs ys o same (new o h)
 
 module _ (region : ObjId) where
-  rows_push : (rows : List PartRow) (r : PartRow) → map (part_row region) (rows ++ r ∷ []) ≡ map (part_row region) rows ++ part_row region r ∷ []
-  rows_push [] r = refl
-  rows_push (x ∷ xs) r = ap (λ l. part_row region x ∷ l) (rows_push xs r)
-
   append_more : (xs ys : List CountedRow) (c : CountedRow) → (xs ++ ys) ++ c ∷ [] ≡ xs ++ (ys ++ c ∷ [])
   append_more [] ys c = refl
   append_more (x ∷ xs) ys c = ap (λ l. x ∷ l) (append_more xs ys c)
@@ -171,14 +151,10 @@ module _ (region : ObjId) where
 
     pub one_put : (new : List CountedRow) → SameByOwner new (now ++ part_row region r ∷ []) → SameByOwner new (old ++ map (part_row region) (take (i + 1) rows))
     one_put new step w = step w ∙ same_append now (old ++ map (part_row region) (take i rows)) was (part_row region r ∷ []) w
-        ∙ ap (rows_of w) (append_more old (map (part_row region) (take i rows)) (part_row region r) ∙ ap (λ l. old ++ l) (sym (ap (map (part_row region)) (take_more rows i r here) ∙ rows_push (take i rows) r)))
+        ∙ ap (rows_of w) (append_more old (map (part_row region) (take i rows)) (part_row region r) ∙ ap (λ l. old ++ l) (sym (ap (map (part_row region)) (take_more rows i r here) ∙ map_push (part_row region) (take i rows) r)))
 
   pub none_put : (old : List CountedRow) (rows : List PartRow) → SameByOwner old (old ++ map (part_row region) (take 0 rows))
   none_put old rows w = ap (rows_of w) (sym (nil_right old) ∙ ap (λ l. old ++ map (part_row region) l) (nothing rows)) where
-    nil_right : (xs : List CountedRow) → xs ++ [] ≡ xs
-    nil_right [] = refl
-    nil_right (x ∷ xs) = ap (λ t. x ∷ t) (nil_right xs)
-
     nothing : (xs : List PartRow) → [] ≡ take 0 xs
     nothing [] = refl
     nothing (x ∷ xs) = refl

@@ -1,5 +1,5 @@
 -- The rows of a region copied out of a flat store, one after the other.
-use Rattle.std.proofs.Common.{Bool, List, None, Option, Some, [], ap, arith, cond, false, length, map, refl, slice_get, subst, sym, take, true, ℕ, suc, zero, ◌+◌, ◌<◌, ◌||◌, ◌++◌, ◌∙◌, ◌∷◌, ◌≡◌}
+use Rattle.std.proofs.Common.{List, None, Option, Some, [], ap, arith, cond, false, length, map, refl, slice_get, subst, sym, take, true, ℕ, suc, zero, ◌+◌, ◌<◌, ◌||◌, ◌++◌, ◌∙◌, ◌∷◌, ◌≡◌}
 use Rattle.std.specs.Option.{IsSome, option_map}
 use Rattle.std.proofs.lemmas.List.{length-map}
 use Rattle.lf_base.specs.declared.ids.ObjId.{ObjId}
@@ -23,10 +23,11 @@ use Rattle.lf_graph.specs.Chains.{is_of, owner_at, row_at}
 use Rattle.lf_graph.specs.FlatParts.{CopiesRow, EachRow, IsPart, IsPartRow, part_cells, part_head, part_row, rows_cells}
 use Rattle.lf_graph.specs.FlatRows.{IsFlat, chain_of, counted_at, counted_by, rows_under}
 use Rattle.lf_graph.specs.StoredRows.{CountedRow}
-use Rattle.lf_graph.proofs.ChainLemmas.{name_flips}
+use Rattle.lf_graph.proofs.ChainLemmas.{name_flips, or_true}
 use Rattle.lf_graph.proofs.FieldCopies.{take_more}
 use Rattle.lf_graph.proofs.FlatView.{counted_owner}
 use Rattle.lf_graph.proofs.Reordered.{owner_is}
+use Rattle.lf_graph.proofs.Shown.{map_push, nil_right}
 
 pub length_push : {X : Type 0} (xs : List X) (x : X) → length (xs ++ x ∷ []) ≡ length xs + 1
 length_push [] x = refl
@@ -65,14 +66,7 @@ after_front (x ∷ xs) o rest d = ap (λ b. cond b (head_or (xs ++ o ∷ rest) N
 
 has_middle : (front : List ObjId) (o : ObjId) (rest : List ObjId) → has same_name o (front ++ o ∷ rest) ≡ true
 has_middle [] o rest = ap (λ b. b || has same_name o rest) (same_name_itself o)
-has_middle (x ∷ xs) o rest = ap (λ b. same_name o x || b) (has_middle xs o rest) ∙ or_true (same_name o x) where
-  or_true : (b : Bool) → (b || true) ≡ true
-  or_true true = refl
-  or_true false = refl
-
-map_push : {X Y : Type 0} (f : X → Y) (xs : List X) (x : X) → map f (xs ++ x ∷ []) ≡ map f xs ++ f x ∷ []
-map_push f [] x = refl
-map_push f (y ∷ ys) x = ap (λ l. f y ∷ l) (map_push f ys x)
+has_middle (x ∷ xs) o rest = ap (λ b. same_name o x || b) (has_middle xs o rest) ∙ or_true (same_name o x)
 
 each_push : (rows : List PartRow) (r : PartRow) → EachRow rows → IsPartRow r → EachRow (rows ++ r ∷ [])
 each_push [] r e p = (p, tt)
@@ -85,10 +79,6 @@ push_rest (y ∷ ys) x rest = ap (λ l. y ∷ l) (push_rest ys x rest)
 length_middle : {X : Type 0} (front : List X) (x : X) (rest : List X) → length front < length (front ++ x ∷ rest)
 length_middle [] x rest = omega arith
 length_middle (y ∷ ys) x rest = let l = length_middle ys x rest in omega arith
-
-nil_right : {X : Type 0} (xs : List X) → xs ++ [] ≡ xs
-nil_right [] = refl
-nil_right (x ∷ xs) = ap (λ t. x ∷ t) (nil_right xs)
 
 module _ (t : Chains) (cells : Cells) (flat : IsFlat t cells) (region : ObjId) where
   abbrev row : ObjId → CountedRow

@@ -25,6 +25,14 @@ Names row = (x : ObjId) → ((row x).row).name ≡ x
 pub shown_same : (xs ys : List CountedRow) (lists : Owner → List ObjId) (row : ObjId → CountedRow) → Shows xs lists row → Shows ys lists row → SameByOwner xs ys
 shown_same xs ys lists row s t w = s w ∙ sym (t w)
 
+pub nil_right : {X : Type 0} (xs : List X) → xs ++ [] ≡ xs
+nil_right [] = refl
+nil_right (x ∷ xs) = ap (λ t. x ∷ t) (nil_right xs)
+
+pub map_push : {X Y : Type 0} (f : X → Y) (xs : List X) (x : X) → map f (xs ++ x ∷ []) ≡ map f xs ++ f x ∷ []
+map_push f [] x = refl
+map_push f (y ∷ ys) x = ap (λ l. f y ∷ l) (map_push f ys x)
+
 -- rows of names other than o
 others_agree : (g h : ObjId → CountedRow) (o : ObjId) → ((x : ObjId) → same_name o x ≡ false → h x ≡ g x) → (xs : List ObjId) → has same_name o xs ≡ false → map h xs ≡ map g xs
 others_agree g h o agree [] l = refl
@@ -61,16 +69,9 @@ module _ (rows : List CountedRow) (lists : Owner → List ObjId) (g h : ObjId �
         rows_append w rows (c ∷ []) ∙ ap (λ l. l ++ cond (same_owner (c.row).owner w) (c ∷ []) []) (shown w)
         ∙ ap (λ u. map g (lists w) ++ cond (same_owner u w) (c ∷ []) []) owned
         ∙ (elim (same_owner v w) as (λ b. map g (lists w) ++ cond b (c ∷ []) [] ≡ map h (cond b (lists w ++ o ∷ []) (lists w))) [
-          | true ↦ ap (λ l. l ++ c ∷ []) (sym (others_agree g h o agree (lists w) (absent w))) ∙ ap (λ r. map h (lists w) ++ r ∷ []) (sym here) ∙ sym (map_push (lists w))
-          | false ↦ no_more (map g (lists w)) ∙ sym (others_agree g h o agree (lists w) (absent w))
-        ]) where
-          map_push : (xs : List ObjId) → map h (xs ++ o ∷ []) ≡ map h xs ++ h o ∷ []
-          map_push [] = refl
-          map_push (x ∷ xs) = ap (λ l. h x ∷ l) (map_push xs)
-
-          no_more : (xs : List CountedRow) → xs ++ [] ≡ xs
-          no_more [] = refl
-          no_more (x ∷ xs) = ap (λ l. x ∷ l) (no_more xs)
+          | true ↦ ap (λ l. l ++ c ∷ []) (sym (others_agree g h o agree (lists w) (absent w))) ∙ ap (λ r. map h (lists w) ++ r ∷ []) (sym here) ∙ sym (map_push h (lists w) o)
+          | false ↦ nil_right (map g (lists w)) ∙ sym (others_agree g h o agree (lists w) (absent w))
+        ])
 
 -- ---- what is found
 

@@ -6,9 +6,10 @@
 //! has what follows for the rows of a state, and `callers` shows that each call can
 //! be used by its contract alone.
 //!
-//! `chains` links the rows of each owner in their order. Each of its calls but
-//! `reserve` looks at one row and its neighbours only. `cells` keeps the fields of all
-//! rows in one table, and links those of a row in their order.
+//! `FlatStore` meets the contract: one table of rows, linked under their owners in their
+//! order, and one of fields, linked in their rows. Each of its calls looks at one row and
+//! its neighbours; only what goes over a row's fields or a region's rows walks them.
+//! `trials` has calls that ask for nothing, for tests and measurements.
 #![tactic(auto)]
 
 pub mod callers;
