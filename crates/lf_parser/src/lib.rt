@@ -26,7 +26,7 @@ mod words;
 
 pub use expr::{Expr, Exprs};
 pub use name::{Name, Names};
-pub use parsing::{ends_once, parse};
+pub use parsing::parse;
 pub use stmt::{Block, Stmt};
 pub use tree::{Function, Functions, Tree};
 

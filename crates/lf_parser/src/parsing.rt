@@ -1,6 +1,6 @@
-ghost use Rattle.std.specs.Prelude.{◌≡◌, IfErr, IfOk, IsTrue};
+ghost use Rattle.std.specs.Prelude.{◌≡◌, IfErr, IfOk};
 ghost use Rattle.lf_parser.specs.Plain.{plain_tree};
-ghost use Rattle.lf_parser.specs.Refusals.{EndsOnce, FailsAs, IsRefusal, IsTree, Readable, Stops, WithinLimits};
+ghost use Rattle.lf_parser.specs.Refusals.{FailsAs, IsRefusal, IsTree, Readable, Stops, WithinLimits};
 ghost use Rattle.lf_parser.specs.Refusals as spec;
 
 use crate::cursor::Cursor;
@@ -9,7 +9,7 @@ use crate::lines::first_past;
 use crate::script::read_script;
 use crate::tree::Tree;
 use lf_base::{ReadFail, Refusal, RefusalKind};
-use lf_lexer::{Lexed, Lexeme, Token};
+use lf_lexer::{Lexed, Token};
 use std::alloc::Global;
 
 /// The tree of a script's tokens.
@@ -67,18 +67,4 @@ fn refusal(tokens: &[Token], left: &[Token], cause: Cause) -> Refusal
         kind: cause.kind(),
         place: left[0].place,
     }
-}
-
-/// Whether the last of the tokens is the end of the script, and no other one is.
-pub fn ends_once(tokens: &[Token]) -> bool
-    ensures { IsTrue result → EndsOnce tokens.now }
-{
-    let mut left = tokens;
-    while let [token, rest @ ..] = left {
-        if rest.is_empty() || token.lexeme == Lexeme::End {
-            return rest.is_empty() && token.lexeme == Lexeme::End;
-        }
-        left = rest;
-    }
-    false
 }

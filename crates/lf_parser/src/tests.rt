@@ -1,4 +1,7 @@
-use crate::{Expr, Stmt, Tree, ends_once, parse};
+ghost use Rattle.std.specs.Prelude.{IsTrue};
+ghost use Rattle.lf_parser.specs.Refusals.{EndsOnce};
+
+use crate::{Expr, Stmt, Tree, parse};
 use lf_base::{Op, Place, ReadFail, RefusalKind, TextId, Texts};
 use lf_lexer::{Lexed, Lexeme, Mark, Token, Tokens};
 use std::alloc::Global;
@@ -128,6 +131,20 @@ fn cut(rt: &impl Abort, alloc: Global, whole: &Lexed, len: usize) -> Lexed {
         tokens,
         texts: Texts::new(alloc).expect(rt, "memory"),
     }
+}
+
+// Whether the last of the tokens is the end of the script, and no other one is.
+fn ends_once(tokens: &[Token]) -> bool
+    ensures { IsTrue result → EndsOnce tokens.now }
+{
+    let mut left = tokens;
+    while let [token, rest @ ..] = left {
+        if rest.is_empty() || token.lexeme == Lexeme::End {
+            return rest.is_empty() && token.lexeme == Lexeme::End;
+        }
+        left = rest;
+    }
+    false
 }
 
 fn parsed(rt: &impl Abort, alloc: Global, lexed: &Lexed) -> Result<Tree, ReadFail> {
