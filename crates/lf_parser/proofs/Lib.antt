@@ -14,3 +14,10 @@ pub mod LawsOfTrees
 pub mod Steps
 pub mod Turns
 pub mod ReadableTokens
+pub mod Adding
+pub mod Standing
+pub mod ExpressionNames
+pub mod StatementNames
+pub mod Risings
+pub mod Spreads
+pub mod ScriptNames

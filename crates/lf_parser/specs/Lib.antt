@@ -1,5 +1,7 @@
 pub mod Kinds
 pub mod Plain
+pub mod Risings
+pub mod TreeNames
 pub mod Words
 pub mod Forms
 pub mod Grammar

@@ -5,9 +5,11 @@ ghost use Rattle.lf_base.specs.declared.ids.TextId.{TextId};
 ghost use Rattle.lf_parser.specs.Laws.{ElifAlone, FieldsByText, OneRefusal, OneTree, TreeOrRefusal};
 ghost use Rattle.lf_base.specs.Texts.{Text};
 ghost use Rattle.lf_lexer.specs.declared.tokens.Token.{Token};
+ghost use Rattle.lf_lexer.specs.Order.{InOrder};
 ghost use Rattle.lf_lexer.specs.Reading.{AreSpelled};
-ghost use Rattle.lf_parser.specs.Plain.{PlainExpr};
-ghost use Rattle.lf_parser.specs.Refusals.{Readable};
+ghost use Rattle.lf_parser.specs.Plain.{PlainExpr, PlainTree};
+ghost use Rattle.lf_parser.specs.Refusals.{Derives, IsTree, Readable};
+ghost use Rattle.lf_parser.specs.TreeNames.{NamesInOrder};
 
 /// At most one tree is derived from some tokens. They don't make a tree within
 /// the limits and are refused too, and have one refusal at most. So `parse`
@@ -29,4 +31,13 @@ pub fn one_form()
 /// end once, and are few.
 pub fn spelled_tokens_are_readable()
     ensures { (tokens : List Token) (texts : List Text) → AreSpelled tokens texts → Readable tokens }
+{}
+
+/// The names of a tree stand in it as they do in the script: main's rise by line and
+/// column, those of the functions do so too, and no two names have one place. That
+/// holds of each tree that is derived from tokens in order, so of each that `parse`
+/// reads from a script.
+pub fn names_stand_in_order()
+    ensures derived { (tokens : List Token) (tree : PlainTree) → InOrder 1 1 0 tokens → Derives tokens tree → NamesInOrder tree }
+    ensures read { (tokens : List Token) (texts : List Text) (tree : PlainTree) → AreSpelled tokens texts → IsTree tokens tree → NamesInOrder tree }
 {}
