@@ -14,5 +14,6 @@ pub mod ScriptOutcomes
 pub mod Layouts
 pub mod Totals
 pub mod Orders
+pub mod LineOrders
 pub mod Named
 pub mod FirstForm

@@ -9,6 +9,7 @@ pub mod Reading
 pub mod Refusals
 pub mod Layout
 pub mod Order
+pub mod LineOrder
 pub mod NamedTexts
 pub mod Front
 pub mod FrontWithin

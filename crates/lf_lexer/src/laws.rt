@@ -5,6 +5,7 @@ ghost use Rattle.lf_base.specs.declared.refusals.Refusal.{Refusal};
 ghost use Rattle.lf_base.specs.Texts.{Text, fixed_texts, Grows, Differ};
 ghost use Rattle.lf_lexer.specs.declared.tokens.Token.{Token};
 ghost use Rattle.lf_lexer.specs.Layout.{Laid, at_line};
+ghost use Rattle.lf_lexer.specs.LineOrder.{OnLines};
 ghost use Rattle.lf_lexer.specs.NamedTexts.{AllNameWithin};
 ghost use Rattle.lf_lexer.specs.Order.{InOrder};
 ghost use Rattle.lf_lexer.specs.Reading.{Spells};
@@ -41,6 +42,11 @@ pub fn spelled_tokens_are_laid()
 /// exactly where its lexeme has no bytes.
 pub fn spelled_tokens_are_in_order()
     ensures { (bytes : List ℕ) (t : List Token) (x : List Text) → Spells bytes t x → InOrder 1 1 0 t }
+{}
+
+/// Their lines don't fall, and a token behind the end of a line stands on a later one.
+pub fn spelled_tokens_are_on_lines()
+    ensures { (bytes : List ℕ) (t : List Token) (x : List Text) → Spells bytes t x → OnLines 1 t }
 {}
 
 /// They are four for each byte at most, and one more.
