@@ -21,3 +21,6 @@ pub mod StatementNames
 pub mod Risings
 pub mod Spreads
 pub mod ScriptNames
+pub mod Lined
+pub mod StatementLines
+pub mod ScriptLines

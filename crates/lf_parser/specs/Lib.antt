@@ -2,6 +2,7 @@ pub mod Kinds
 pub mod Plain
 pub mod Risings
 pub mod TreeNames
+pub mod TreeLines
 pub mod Words
 pub mod Forms
 pub mod Grammar

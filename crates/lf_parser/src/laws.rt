@@ -5,10 +5,12 @@ ghost use Rattle.lf_base.specs.declared.ids.TextId.{TextId};
 ghost use Rattle.lf_parser.specs.Laws.{ElifAlone, FieldsByText, OneRefusal, OneTree, TreeOrRefusal};
 ghost use Rattle.lf_base.specs.Texts.{Text};
 ghost use Rattle.lf_lexer.specs.declared.tokens.Token.{Token};
+ghost use Rattle.lf_lexer.specs.LineOrder.{OnLines};
 ghost use Rattle.lf_lexer.specs.Order.{InOrder};
 ghost use Rattle.lf_lexer.specs.Reading.{AreSpelled};
 ghost use Rattle.lf_parser.specs.Plain.{PlainExpr, PlainTree};
 ghost use Rattle.lf_parser.specs.Refusals.{Derives, IsTree, Readable};
+ghost use Rattle.lf_parser.specs.TreeLines.{LinesInOrder};
 ghost use Rattle.lf_parser.specs.TreeNames.{NamesInOrder};
 
 /// At most one tree is derived from some tokens. They don't make a tree within
@@ -40,4 +42,13 @@ pub fn spelled_tokens_are_readable()
 pub fn names_stand_in_order()
     ensures derived { (tokens : List Token) (tree : PlainTree) → InOrder 1 1 0 tokens → Derives tokens tree → NamesInOrder tree }
     ensures read { (tokens : List Token) (texts : List Text) (tree : PlainTree) → AreSpelled tokens texts → IsTree tokens tree → NamesInOrder tree }
+{}
+
+/// The lines of a tree's statements rise in main and in the functions, the statements in
+/// a statement behind it, and no two statements have one line. That holds where no token
+/// stands on an earlier line than the one before it, and none on a line that has ended, so
+/// of each tree that `parse` reads from a script.
+pub fn lines_stand_in_order()
+    ensures derived { (tokens : List Token) (tree : PlainTree) → OnLines 1 tokens → Derives tokens tree → LinesInOrder tree }
+    ensures read { (tokens : List Token) (texts : List Text) (tree : PlainTree) → AreSpelled tokens texts → IsTree tokens tree → LinesInOrder tree }
 {}
