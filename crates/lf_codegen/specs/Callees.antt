@@ -1,0 +1,66 @@
+-- What may be called, and with how many arguments.
+use Rattle.std.specs.Prelude.{ℕ, true, false, List, [], ◌∷◌, length, codes, Option, Some, None, if◌then◌else◌}
+use Rattle.std.specs.Str.{bytes_eq}
+use Rattle.lf_base.specs.declared.ids.TextId.{TextId}
+use Rattle.lf_base.specs.Texts.{Text, text_at}
+use Rattle.lf_parser.specs.Plain.{PlainFunction}
+use Rattle.lf_codegen.specs.declared.callee.Callee.{Callee}
+use Rattle.lf_codegen.specs.Frames.{same_id}
+
+-- a callee that takes from least to most arguments
+abbrev pub takes : ℕ → ℕ → Callee
+takes least most = record { least = least; most = most; asks = false }
+
+-- a question, of one variable
+abbrev pub question : Callee
+question = record { least = 1; most = 1; asks = true }
+
+pub record BuiltIn : Type 0 where
+  pub name : Text
+  pub callee : Callee
+
+abbrev pub built_in_named : List ℕ → Callee → BuiltIn
+built_in_named name callee = record { name = name; callee = callee }
+
+-- the built-in calls
+abbrev pub built_ins : List BuiltIn
+built_ins =
+    built_in_named (codes "print") (takes 0 16)
+    ∷ built_in_named (codes "Region") (takes 0 0)
+    ∷ built_in_named (codes "Cown") (takes 1 1)
+    ∷ built_in_named (codes "freeze") (takes 1 1)
+    ∷ built_in_named (codes "merge") (takes 2 2)
+    ∷ built_in_named (codes "dissolve") (takes 1 1)
+    ∷ built_in_named (codes "close") question
+    ∷ built_in_named (codes "refs") question
+    ∷ built_in_named (codes "borrowed") question
+    ∷ built_in_named (codes "open_children") question
+    ∷ built_in_named (codes "owner") question
+    ∷ built_in_named (codes "is_closed") question
+    ∷ []
+
+-- the callee of this name among some built-in calls
+abbrev pub named_in : List BuiltIn → Text → Option Callee
+named_in [] text = None
+named_in (b ∷ bs) text = if bytes_eq text b.name then Some b.callee else named_in bs text
+
+unfoldable pub built_in : Text → Option Callee
+built_in text = named_in built_ins text
+
+-- the number of parameters of the first function of a name
+abbrev pub params_of : List PlainFunction → TextId → Option ℕ
+params_of [] id = None
+params_of (f ∷ fs) id = if same_id id f.name.id then Some (length f.params) else params_of fs id
+
+abbrev pub exactly : Option ℕ → Option Callee
+exactly None = None
+exactly (Some count) = Some (takes count count)
+
+-- a built-in call goes before a function
+abbrev pub built_in_or : Option Callee → Option ℕ → Option Callee
+built_in_or (Some callee) params = Some callee
+built_in_or None params = exactly params
+
+-- what a call of a name means
+abbrev pub callee_of : List Text → List PlainFunction → TextId → Option Callee
+callee_of texts functions id = built_in_or (built_in (text_at texts id.index)) (params_of functions id)

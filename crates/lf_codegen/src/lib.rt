@@ -1,0 +1,26 @@
+//! What the names of a script stand for.
+//!
+//! It stands on `lf_base`, `lf_lexer` and `lf_parser`. `resolve` promises of a
+//! tree that each name and each call in it is right, and the variables of each frame in
+//! the order of their numbers, or the refusal that stands first. `read` promises of
+//! a script's bytes the resolved tree that they spell, or their first refusal. `laws`
+//! promises that each script has one such answer.
+#![tactic(auto)]
+
+mod callee;
+mod callees;
+mod first_refusal;
+mod frame;
+mod frames;
+mod lists;
+mod mention;
+mod mentions;
+mod name_set;
+mod resolved;
+mod resolving;
+mod script;
+mod variables;
+
+pub use resolved::Resolved;
+pub use resolving::resolve;
+pub use script::{Script, read};
