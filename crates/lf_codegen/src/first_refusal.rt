@@ -7,7 +7,7 @@ use lf_base::{Place, Refusal, RefusalKind};
 use lf_parser::Name;
 
 // Whether a place stands before another one, by line and then by column.
-fn is_before(place: Place, other: Place) -> bool
+fn place_is_before(place: Place, other: Place) -> bool
     ensures { result ≡ place_before place other }
 {
     place.line < other.line || place.line == other.line && place.column < other.column
@@ -36,7 +36,7 @@ impl FirstRefusal {
         };
         let place = name.place;
         match self.refusal {
-            Some(first) if !is_before(place, first.place) => {}
+            Some(first) if !place_is_before(place, first.place) => {}
             _ => self.refusal = Some(Refusal { kind, place }),
         }
     }

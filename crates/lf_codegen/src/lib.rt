@@ -24,3 +24,6 @@ mod variables;
 pub use resolved::Resolved;
 pub use resolving::resolve;
 pub use script::{Script, read};
+
+#[cfg(test)]
+mod tests;
