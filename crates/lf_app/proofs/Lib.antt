@@ -1,12 +1,4 @@
-pub mod Shapes
-pub mod Readings
-pub mod Steps
-pub mod Expressions
-pub mod LineForms
-pub mod Known
-pub mod TokenShapes
-pub mod Spelled
-pub mod Walked
-pub mod Ahead
-pub mod FrontLines
-pub mod TokenLists
+pub mod Arguments
+pub mod Dues
+pub mod Judging
+pub mod Walking

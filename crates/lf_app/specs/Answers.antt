@@ -1,5 +1,5 @@
 -- What a call of the program may answer, and what it has then read and written.
-use Rattle.std.specs.Prelude.{◌≡◌, ◌≤◌, ◌+◌, ◌⊎◌, ℕ, true, false, List, [], length, nat_lt, Some, if◌then◌else◌}
+use Rattle.std.specs.Prelude.{◌≡◌, ◌≤◌, ◌+◌, ◌⊎◌, ℕ, Bool, true, false, List, [], length, nat_lt, Option, Some, None}
 use Rattle.std.specs.Io.KnownBytes.{Consumes, Appends, IsAtEnd}
 use Rattle.lf_outside.specs.Causes.{Rose}
 use Rattle.lf_outside.specs.Streams.{Stream}
@@ -7,9 +7,10 @@ use Rattle.lf_outside.specs.Transfer.{AppendsFront, ConsumesSome, ConsumesUpTo}
 use Rattle.lf_app.specs.declared.statuses.Status.{Status}
 use Rattle.lf_app.specs.declared.statuses.Status.TheVariants.{Done, Faulted, ScriptRefused, WordsRefused, Stopped, ReadFault, WriteFault, OutOfMemory, ScriptTooLong}
 use Rattle.lf_app.specs.declared.reports.Report.{Report}
-use Rattle.lf_app.specs.Words.{is_run}
-use Rattle.lf_app.specs.FirstForm.{Verdict, Runs, Stops, verdict}
-use Rattle.lf_app.specs.Output.{output, journal}
+use Rattle.lf_app.specs.declared.commands.Command.{Command}
+use Rattle.lf_app.specs.Words.{command_of}
+use Rattle.lf_app.specs.Verdicts.{Verdict, Runs, Checked, Refuses, IsVerdict}
+use Rattle.lf_app.specs.Output.{output_of, journal_of}
 
 -- the longest script, in bytes
 abbrev pub most_bytes : ℕ
@@ -18,11 +19,21 @@ most_bytes = 1048576
 -- the status of a script's verdict
 abbrev pub due_of : Verdict → Status
 due_of (Runs numbers) = Done
-due_of (Stops line) = ScriptRefused
+due_of Checked = Done
+due_of (Refuses refusal) = ScriptRefused
+
+-- the status that is due under a command, where the script is too long or isn't
+abbrev pub IsDueOf : Command → List ℕ → Bool → Status → Type 0
+IsDueOf command bytes true status = status ≡ ScriptTooLong
+IsDueOf command bytes false status = (verdict : Verdict) × IsVerdict command bytes verdict × (status ≡ due_of verdict)
 
 -- the status that is due for these words and this source, where nothing fails
-abbrev pub due : List (List ℕ) → List ℕ → Status
-due words bytes = if is_run words then (if nat_lt most_bytes (length bytes) then ScriptTooLong else due_of (verdict bytes)) else WordsRefused
+abbrev pub IsDueFor : Option Command → List ℕ → Status → Type 0
+IsDueFor None bytes status = status ≡ WordsRefused
+IsDueFor (Some command) bytes status = IsDueOf command bytes (nat_lt most_bytes (length bytes)) status
+
+abbrev pub IsDue : List (List ℕ) → List ℕ → Status → Type 0
+IsDue words bytes status = IsDueFor (command_of words) bytes status
 
 -- a call: its words, and the source and the sink before and after it
 pub record Call : Type 0 where
@@ -44,33 +55,40 @@ pub record ReadsScript (call : Call) (bytes : List ℕ) : Type 0 where
 
 -- a script was read and judged, and all that is due was written
 pub record Completes (call : Call) (report : Report) : Type 0 where
-  pub runs : is_run call.words ≡ true
+  pub command : Command
+  pub command_is : command_of call.words ≡ Some command
   pub bytes : List ℕ
   pub script : ReadsScript call bytes
-  pub due_status : report.status ≡ due_of (verdict bytes)
-  pub order : report.order ≡ journal bytes
-  pub written : Appends call.sink.bytes call.sink_after.bytes (output bytes)
+  pub verdict : Verdict
+  pub is_verdict : IsVerdict command bytes verdict
+  pub due_status : report.status ≡ due_of verdict
+  pub order : report.order ≡ journal_of verdict
+  pub written : Appends call.sink.bytes call.sink_after.bytes (output_of verdict)
   pub faults : call.sink_after.faults ≡ call.sink.faults
 
 -- a script was read and judged, and the sink failed behind a front of what is due
 pub record WriteFails (call : Call) (report : Report) : Type 0 where
-  pub runs : is_run call.words ≡ true
+  pub command : Command
+  pub command_is : command_of call.words ≡ Some command
   pub bytes : List ℕ
   pub script : ReadsScript call bytes
-  pub order : report.order ≡ journal bytes
-  pub written : AppendsFront (output bytes) call.sink.bytes call.sink_after.bytes
+  pub verdict : Verdict
+  pub is_verdict : IsVerdict command bytes verdict
+  pub order : report.order ≡ journal_of verdict
+  pub written : AppendsFront (output_of verdict) call.sink.bytes call.sink_after.bytes
   pub rose : Rose call.sink.faults call.sink_after.faults
 
--- the words aren't the one word `run`, and neither the source nor the sink was asked
+-- the words are no command, and neither the source nor the sink was asked
 pub record RefusesWords (call : Call) (report : Report) : Type 0 where
-  pub words : is_run call.words ≡ false
+  pub words : command_of call.words ≡ None
   pub order : report.order ≡ []
   pub source : call.source_after ≡ call.source
   pub sink : call.sink_after ≡ call.sink
 
 -- the source failed before its end, and the sink wasn't asked
 pub record ReadFails (call : Call) (report : Report) : Type 0 where
-  pub runs : is_run call.words ≡ true
+  pub command : Command
+  pub command_is : command_of call.words ≡ Some command
   pub order : report.order ≡ []
   pub read : ConsumesUpTo most_bytes call.source.bytes call.source_after.bytes
   pub rose : Rose call.source.faults call.source_after.faults
@@ -78,7 +96,8 @@ pub record ReadFails (call : Call) (report : Report) : Type 0 where
 
 -- one byte more than the longest script was read, and the sink wasn't asked
 pub record FindsTooLong (call : Call) (report : Report) : Type 0 where
-  pub runs : is_run call.words ≡ true
+  pub command : Command
+  pub command_is : command_of call.words ≡ Some command
   pub order : report.order ≡ []
   pub read : ConsumesSome (most_bytes + 1) call.source.bytes call.source_after.bytes
   pub faults : call.source_after.faults ≡ call.source.faults
@@ -86,7 +105,8 @@ pub record FindsTooLong (call : Call) (report : Report) : Type 0 where
 
 -- memory ran out before anything was written, and the sink wasn't asked
 pub record LacksMemory (call : Call) (report : Report) : Type 0 where
-  pub runs : is_run call.words ≡ true
+  pub command : Command
+  pub command_is : command_of call.words ≡ Some command
   pub order : report.order ≡ []
   pub read : ConsumesUpTo most_bytes call.source.bytes call.source_after.bytes
   pub faults : call.source_after.faults ≡ call.source.faults
@@ -110,4 +130,4 @@ Answers call report = Says call report report.status
 -- where the source told its bytes and nothing failed, the status is the due one, or memory ran out
 abbrev pub IsComplete : Call → Report → Type 0
 IsComplete call report = (bytes : List ℕ) → call.source.bytes ≡ Some bytes → call.source_after.faults ≡ call.source.faults → call.sink_after.faults ≡ call.sink.faults
-    → (report.status ≡ due call.words bytes) ⊎ (report.status ≡ OutOfMemory)
+    → IsDue call.words bytes report.status ⊎ (report.status ≡ OutOfMemory)

@@ -1,13 +1,10 @@
 -- The values of fields by their names.
-use Rattle.std.specs.Prelude.{ℕ, Bool, ◌==◌, Option}
+use Rattle.std.specs.Prelude.{ℕ, Option}
 use Rattle.std.specs.declared.hash.FoldHasher.{FoldHasher}
 use Rattle.std.specs.declared.hash.BuildHasherDefault.{BuildHasherDefault}
 use Rattle.std.specs.HashMap.{HashMap, get}
 use Rattle.lf_base.specs.declared.ids.TextId.{TextId}
-
--- two places are the same
-abbrev pub same_text : TextId → TextId → Bool
-same_text a b = a.index == b.index
+use Rattle.lf_app.specs.FirstForm.{same_text}
 
 -- the value of a field in a map
 abbrev pub value_at : HashMap TextId ℕ (BuildHasherDefault FoldHasher) → TextId → Option ℕ

@@ -1,12 +1,10 @@
 pub mod Words
 pub mod Statuses
-pub mod Line
 pub mod FirstForm
+pub mod Verdicts
 pub mod Output
 pub mod Answers
 pub mod WorkedRows
 pub mod Fields
-pub mod TokenForms
-pub mod Walks
 pub mod Standing
 pub mod Outcomes

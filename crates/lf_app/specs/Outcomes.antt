@@ -1,15 +1,14 @@
 -- What comes of a script, before anything of it is written.
 use Rattle.std.specs.Prelude.{◌≡◌, ◌⊎◌, ℕ, List, string_bytes}
 use Rattle.std.specs.Io.KnownBytes.{Appends}
-use Rattle.lf_base.specs.declared.refusals.Refusal.{Refusal}
-use Rattle.lf_lexer.specs.FirstForm.Reading.{IsFirstRefusal}
 use Rattle.lf_outside.specs.Causes.{Rose}
 use Rattle.lf_outside.specs.Streams.{Stream}
 use Rattle.lf_outside.specs.Transfer.{AppendsFront}
+use Rattle.lf_app.specs.declared.commands.Command.{Command}
 use Rattle.lf_app.specs.declared.reports.Report.{Report}
 use Rattle.lf_app.specs.declared.statuses.Status.TheVariants.{WriteFault}
 use Rattle.lf_app.specs.declared.outcomes.Outcome.{Outcome}
-use Rattle.lf_app.specs.FirstForm.{Verdict}
+use Rattle.lf_app.specs.Verdicts.{Verdict, IsVerdict}
 use Rattle.lf_app.specs.Output.{output_of, journal_of}
 use Rattle.lf_app.specs.Answers.{due_of}
 
@@ -19,9 +18,11 @@ pub record IsOutcomeOf (verdict : Verdict) (outcome : Outcome) : Type 0 where
   pub text_is : string_bytes outcome.text ≡ output_of verdict
   pub order_is : outcome.order ≡ journal_of verdict
 
--- the lexer's first refusal is on this line
-abbrev pub IsRefusedAt : List ℕ → ℕ → Type 0
-IsRefusedAt bytes line = (refusal : Refusal) × IsFirstRefusal bytes refusal × (refusal.place.line ≡ line)
+-- what comes of a script's bytes under a command
+pub record IsOutcome (command : Command) (bytes : List ℕ) (outcome : Outcome) : Type 0 where
+  pub verdict : Verdict
+  pub is_verdict : IsVerdict command bytes verdict
+  pub is_of : IsOutcomeOf verdict outcome
 
 -- the whole text was written to a sink
 pub record IsWritten (sink sink_after : Stream) (outcome : Outcome) (report : Report) : Type 0 where

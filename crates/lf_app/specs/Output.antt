@@ -2,9 +2,8 @@
 use Rattle.std.specs.Prelude.{ℕ, List, [], ◌∷◌, ◌++◌, codes, flat_map}
 use Rattle.std.specs.Fmt.{decimal}
 use Rattle.lf_base.specs.declared.refusals.Refusal.{Refusal}
-use Rattle.lf_base.specs.declared.refusals.RefusalKind.TheVariants.{NotBuilt}
 use Rattle.lf_base.specs.RefusalKinds.{kind_name}
-use Rattle.lf_app.specs.FirstForm.{Verdict, Runs, Stops, verdict}
+use Rattle.lf_app.specs.Verdicts.{Verdict, Runs, Checked, Refuses}
 
 -- a line with its line feed
 abbrev pub with_feed : List ℕ → List ℕ
@@ -26,15 +25,11 @@ run_text numbers = with_feed (codes "[0]") ++ printed_lines numbers ++ with_feed
 -- what is written of a script
 abbrev pub output_of : Verdict → List ℕ
 output_of (Runs numbers) = run_text numbers
-output_of (Stops line) = refusal_line (record { kind = NotBuilt; place = record { line = line; column = 1 } })
+output_of Checked = with_feed (codes "script ok")
+output_of (Refuses refusal) = refusal_line refusal
 
-abbrev pub output : List ℕ → List ℕ
-output bytes = output_of (verdict bytes)
-
--- the journal of a script's run: the numbers of its behaviours, in the order in which they were committed
+-- the journal of a script: the numbers of the behaviours of its run, in the order in which they were committed
 abbrev pub journal_of : Verdict → List ℕ
 journal_of (Runs numbers) = 0 ∷ []
-journal_of (Stops line) = []
-
-abbrev pub journal : List ℕ → List ℕ
-journal bytes = journal_of (verdict bytes)
+journal_of Checked = []
+journal_of (Refuses refusal) = []

@@ -1,43 +1,71 @@
--- Worked rows: short scripts, and what the definitions say of them.
-use Rattle.std.specs.Prelude.{◌≡◌, ℕ, List, [], ◌∷◌, ◌++◌, codes}
-use Rattle.lf_app.specs.FirstForm.{Runs, Stops, verdict}
+-- Worked rows: short trees, and what the definitions say of them.
+use Rattle.std.specs.Prelude.{◌≡◌, ℕ, pos, negsuc, List, [], ◌∷◌}
+use Rattle.lf_base.specs.declared.values.Op.TheVariants.{Add, Sub}
+use Rattle.lf_parser.specs.declared.name.Name.{Name}
+use Rattle.lf_parser.specs.Plain.{PlainExpr, PlainStmt, PlainFunction, no_args, arg, no_stmts, block_of}
+use Rattle.lf_parser.specs.Plain.{Yes, Number, Text, Object, Var, Field, Binary, Call, Assign, Store, Eval, Pass}
+use Rattle.lf_app.specs.FirstForm.{Course, Prints, Leaves, course}
 
--- a script of these lines, each with its line feed
-abbrev pub script : List (List ℕ) → List ℕ
-script [] = []
-script (line ∷ lines) = line ++ 10 ∷ script lines
+-- a name of this id. Places of variables are not looked at
+abbrev pub named : ℕ → Name
+named id = record { id = record { index = id }; place = record { line = 1; column = 1 } }
 
--- a script without lines, one with blank ones alone, and one whose last line has no line feed
+abbrev pub n : ℕ → PlainExpr
+n value = Number (pos value)
+
+abbrev pub read : ℕ → ℕ → PlainExpr
+read object field = Field (Var (named object)) (Text (record { index = field }))
+
+abbrev pub make : ℕ → ℕ → PlainStmt
+make line object = Assign line (named object) Object
+
+abbrev pub put : ℕ → ℕ → ℕ → PlainExpr → PlainStmt
+put line object field value = Store line (Var (named object)) (Text (record { index = field })) value
+
+abbrev pub print : ℕ → PlainExpr → PlainStmt
+print line value = Eval line (Call (named 5) (arg value no_args))
+
+abbrev pub def_at : ℕ → PlainFunction
+def_at line = record { name = record { id = record { index = 30 }; place = record { line = line; column = 5 } }; params = []; body = no_stmts }
+
+-- the course of a script without functions
+abbrev pub course_of : List PlainStmt → Course
+course_of stmts = course (record { functions = []; main = block_of stmts })
+
+-- a script without statements
 abbrev pub EmptyShows : Type 0
-EmptyShows = (verdict [] ≡ Runs []) × (verdict (script (codes "  " ∷ [] ∷ [])) ≡ Runs []) × (verdict (script (codes "x = {}" ∷ []) ++ codes "print(1)") ≡ Runs (1 ∷ []))
+EmptyShows = course_of [] ≡ Prints []
 
 -- a sum is stored and printed
 abbrev pub FirstSumShows : Type 0
-FirstSumShows = verdict (script (codes "x = {}" ∷ codes "x.f = 41 + 1" ∷ codes "print(x.f)" ∷ [])) ≡ Runs (42 ∷ [])
+FirstSumShows = course_of (make 1 20 ∷ put 2 20 21 (Binary Add (n 41) (n 1)) ∷ print 3 (read 20 21) ∷ []) ≡ Prints (42 ∷ [])
 
 -- a field is copied, and then written again
 abbrev pub RewrittenFieldShows : Type 0
 RewrittenFieldShows =
-    verdict (script (codes "x = {}" ∷ codes "x.a = 7" ∷ codes "x.b = x.a" ∷ codes "x.a = 1 + 2" ∷ codes "print(x.b)" ∷ codes "print(x.a)" ∷ [])) ≡ Runs (7 ∷ 3 ∷ [])
+    course_of (make 1 20 ∷ put 2 20 21 (n 7) ∷ put 3 20 22 (read 20 21) ∷ put 4 20 21 (n 3) ∷ print 5 (read 20 22) ∷ print 6 (read 20 21) ∷ []) ≡ Prints (7 ∷ 3 ∷ [])
 
--- spaces part tokens, and `print` may be the name of the object
-abbrev pub SpacedShows : Type 0
-SpacedShows = verdict (script (codes "print = { }  " ∷ codes "print . a=0012+ 3" ∷ codes "print ( print.a )" ∷ [])) ≡ Runs (15 ∷ [])
+-- `print` may be the name of the object, and of its field
+abbrev pub PrintIsNoWordShows : Type 0
+PrintIsNoWordShows = course_of (make 1 5 ∷ put 2 5 5 (n 15) ∷ print 3 (read 5 5) ∷ []) ≡ Prints (15 ∷ [])
 
--- near misses on the second line, after `x = {}`
-abbrev pub StopsAtSecond : List ℕ → Type 0
-StopsAtSecond line = verdict (script (codes "x = {}" ∷ line ∷ [])) ≡ Stops 2
+-- near misses on the second line, after an object is made
+abbrev pub LeavesAtSecond : PlainStmt → Type 0
+LeavesAtSecond second = course_of (make 1 20 ∷ second ∷ print 3 (n 1) ∷ []) ≡ Leaves 2
 
--- a second object, another object's field, a field that has no value, a space at the front
+-- a second object, another object's field, a field that has no value
 abbrev pub WrongNamesShow : Type 0
-WrongNamesShow = StopsAtSecond (codes "x = {}") × StopsAtSecond (codes "y.f = 1") × StopsAtSecond (codes "print(x.f)") × StopsAtSecond (codes " x.f = 1")
+WrongNamesShow = LeavesAtSecond (make 2 20) × LeavesAtSecond (put 2 22 21 (n 1)) × LeavesAtSecond (print 2 (read 20 21)) × LeavesAtSecond (put 2 20 21 (read 20 21))
 
--- ten digits, three summands, two numbers, a number and a name, two equal signs
+-- a number that is too large, a negative one, three summands, a difference, no number, two arguments
 abbrev pub WrongValuesShow : Type 0
 WrongValuesShow =
-    StopsAtSecond (codes "x.f = 0123456789") × StopsAtSecond (codes "x.f = 1 + 2 + 3") × StopsAtSecond (codes "x.f = 1 2")
-    × StopsAtSecond (codes "x.f = 12ab") × StopsAtSecond (codes "x.f == 1")
+    LeavesAtSecond (put 2 20 21 (n 1000000000)) × LeavesAtSecond (put 2 20 21 (Number (negsuc 0))) × LeavesAtSecond (print 2 (Binary Add (Binary Add (n 1) (n 2)) (n 3)))
+    × LeavesAtSecond (print 2 (Binary Sub (n 2) (n 1))) × LeavesAtSecond (print 2 Yes) × LeavesAtSecond (Eval 2 (Call (named 5) (arg (n 1) (arg (n 2) no_args)))) × LeavesAtSecond (Pass 2)
 
--- a word of the language is no name
-abbrev pub WordShows : Type 0
-WordShows = verdict (codes "if = {}") ≡ Stops 1
+-- a `def` leaves the form wherever it stands, and the lesser line counts
+abbrev pub DefsShow : Type 0
+DefsShow =
+    (course (record { functions = def_at 4 ∷ []; main = block_of (make 1 20 ∷ []) }) ≡ Leaves 4)
+    × (course (record { functions = def_at 4 ∷ def_at 6 ∷ []; main = block_of (Pass 2 ∷ []) }) ≡ Leaves 2)
+    × (course (record { functions = def_at 2 ∷ []; main = block_of (Pass 4 ∷ []) }) ≡ Leaves 2)

@@ -1,22 +1,25 @@
 //! The whole program but its `main`: from the words of the command line and a
 //! source to a status and what a sink gets.
 //!
-//! It stands on `lf_base`, `lf_lexer` and `lf_outside`. Its promise is the clause
-//! of [`tool`] and [`top`]: what each status says, which is that the sink got the
-//! text of the script that the source gave, and the report its journal.
+//! It stands on `lf_base`, `lf_codegen`, `lf_outside` and `lf_parser`. Its promise is
+//! the clause of [`tool`] and [`top`]: what each status says, which is that the sink
+//! got the text that is due for the script that the source gave, and the report its
+//! journal.
 #![tactic(auto)]
 
 mod commands;
+mod forms;
 mod outcomes;
+mod program;
 mod reports;
 mod script;
 mod statuses;
-mod token_forms;
 mod walk;
 mod word_list;
 pub mod worked_rows;
 
-pub use commands::{MainStore, tool, top};
+pub use commands::Command;
+pub use program::{MainStore, tool, top};
 pub use reports::Report;
 pub use statuses::Status;
 pub use word_list::Word;

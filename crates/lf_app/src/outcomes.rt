@@ -1,11 +1,11 @@
 ghost use Rattle.std.specs.Prelude.{◌≡◌, ℕ, List, IfOk, string_bytes};
-ghost use Rattle.lf_app.specs.FirstForm.{Runs, Stops};
-ghost use Rattle.lf_app.specs.Output.{refusal_line as line_of_refusal, run_text, output_of};
+ghost use Rattle.lf_app.specs.Verdicts.{Runs, Checked, Refuses};
+ghost use Rattle.lf_app.specs.Output.{refusal_line as line_of_refusal};
 ghost use Rattle.lf_app.specs.Outcomes.{IsOutcomeOf};
 ghost use Rattle.lf_app.specs.Standing.{text_so_far};
 
 use crate::statuses::Status;
-use lf_base::{Order, OutOfMemory, Place, Refusal, RefusalKind};
+use lf_base::{Order, OutOfMemory, Place, Refusal};
 use std::alloc::Global;
 
 /// What comes of a script, before anything of it is written.
@@ -41,14 +41,21 @@ pub fn run_outcome(alloc: Global, mut text: String) -> Result<Outcome, OutOfMemo
     })
 }
 
-/// The outcome of a script whose first line that isn't of its form has this number.
-pub fn refused_outcome(alloc: Global, line: u32) -> Result<Outcome, OutOfMemory>
-    ensures { IfOk result (IsOutcomeOf (Stops line)) }
+/// The outcome of a script that is right, and isn't run.
+pub fn checked_outcome(alloc: Global) -> Result<Outcome, OutOfMemory>
+    ensures { IfOk result (IsOutcomeOf Checked) }
 {
-    let refusal = Refusal {
-        kind: RefusalKind::NotBuilt,
-        place: Place { line, column: 1 },
-    };
+    Ok(Outcome {
+        status: Status::Done,
+        text: String::from_str(alloc, "script ok\n")?,
+        order: Order::new(alloc),
+    })
+}
+
+/// The outcome of a script that is refused.
+pub fn refused_outcome(alloc: Global, refusal: Refusal) -> Result<Outcome, OutOfMemory>
+    ensures { IfOk result (IsOutcomeOf (Refuses refusal)) }
+{
     Ok(Outcome {
         status: Status::ScriptRefused,
         text: refusal_line(alloc, refusal)?,

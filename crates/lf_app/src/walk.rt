@@ -2,9 +2,9 @@ ghost use Rattle.std.specs.Prelude.{◌≡◌, ◌++◌, IfOk, OnOk, string_byte
 ghost use Rattle.std.specs.Fmt.{decimal};
 ghost use Rattle.lf_app.specs.Output.{with_feed};
 
-use crate::token_forms::{Fields, made_object, printed_value, stored_field};
+use crate::forms::{Fields, made_object, printed_value, stored_field};
 use lf_base::{OutOfMemory, TextId};
-use lf_lexer::Token;
+use lf_parser::Stmt;
 use std::alloc::Global;
 use std::collections::HashMap;
 
@@ -16,10 +16,10 @@ fn print_line(text: &mut String, value: u64) -> Result<(), OutOfMemory>
     Ok(())
 }
 
-/// How far the walk over the lines of a script has come.
+/// How far the walk over the statements of a script has come.
 #[derive(Drop)]
 pub struct Walk {
-    /// The object's name, once a line has made it.
+    /// The object's name, once a statement has made it.
     pub object: Option<TextId>,
     /// The values of the object's fields.
     pub fields: Fields,
@@ -28,12 +28,13 @@ pub struct Walk {
 }
 
 impl Walk {
-    ghost use Rattle.lf_app.specs.Standing.{IsFresh};
-    ghost use Rattle.lf_app.specs.Walks.{GoesOver};
+    ghost use Rattle.lf_app.specs.FirstForm.{State, start, after_stmt};
+    ghost use Rattle.lf_app.specs.Standing.{StandsAt, Follows};
+    ghost use Rattle.lf_parser.specs.Plain.{plain_stmt};
 
-    /// A walk before the first line.
+    /// A walk before the first statement.
     pub fn new(alloc: Global) -> Result<Walk, OutOfMemory>
-        ensures { IfOk result IsFresh }
+        ensures { IfOk result (λ walk. StandsAt walk start) }
     {
         let mut text = String::new(alloc);
         text.push_str("[0]\n")?;
@@ -44,19 +45,19 @@ impl Walk {
         })
     }
 
-    /// Goes over a line's tokens, and answers whether they are of a form that may stand there.
-    pub fn line(&mut self, tokens: &[Token]) -> Result<bool, OutOfMemory>
-        ensures { IfOk result (λ good. GoesOver self.old self.new tokens.now good) }
+    /// Goes over a statement, and answers whether it is of a form that may stand there.
+    pub fn statement(&mut self, stmt: &Stmt) -> Result<bool, OutOfMemory>
+        ensures { IfOk result (λ good. (state : State) → StandsAt self.old state → Follows self.new (after_stmt state (plain_stmt stmt.now)) good) }
     {
         let Some(object) = self.object else {
-            self.object = made_object(tokens);
+            self.object = made_object(stmt);
             return Ok(self.object.is_some());
         };
-        if let Some((field, value)) = stored_field(object, &self.fields, tokens) {
+        if let Some((field, value)) = stored_field(object, &self.fields, stmt) {
             self.fields.insert(field, value)?;
             return Ok(true);
         }
-        match printed_value(TextId::PRINT, object, &self.fields, tokens) {
+        match printed_value(object, &self.fields, stmt) {
             Some(value) => {
                 print_line(&mut self.text, value)?;
                 Ok(true)

@@ -1,6 +1,5 @@
 ghost use Rattle.std.specs.Prelude.{◌≡◌, IfOk};
 ghost use Rattle.std.specs.Str.{bytes_eq};
-ghost use Rattle.lf_app.specs.Words.{is_run as words_are_run};
 
 use lf_base::OutOfMemory;
 use std::alloc::Global;
@@ -34,15 +33,5 @@ impl Word {
         ensures { result ≡ bytes_eq self.now text.now }
     {
         self.text.as_str() == text
-    }
-}
-
-/// Whether the words are the one word `run`.
-pub fn is_run(words: &[Word]) -> bool
-    ensures { result ≡ words_are_run words.now }
-{
-    match words {
-        [word] => word.is("run"),
-        _ => false,
     }
 }

@@ -1,9 +1,9 @@
-//! Short scripts on which the definitions of the first form are tried. Each function has an empty
+//! Short trees on which the definitions of the first form are tried. Each function has an empty
 //! body; its clause is the row.
 
-ghost use Rattle.lf_app.specs.WorkedRows.{EmptyShows, FirstSumShows, RewrittenFieldShows, SpacedShows, WordShows, WrongNamesShow, WrongValuesShow};
+ghost use Rattle.lf_app.specs.WorkedRows.{DefsShow, EmptyShows, FirstSumShows, PrintIsNoWordShows, RewrittenFieldShows, WrongNamesShow, WrongValuesShow};
 
-/// A script may have no line that says something, and no line feed at its end.
+/// A script may have no statement.
 pub fn empty()
     ensures { EmptyShows }
 {}
@@ -18,9 +18,9 @@ pub fn rewritten_field()
     ensures { RewrittenFieldShows }
 {}
 
-/// Spaces part tokens and mean nothing else.
-pub fn spaced()
-    ensures { SpacedShows }
+/// `print` is a word of a call alone.
+pub fn print_as_a_name()
+    ensures { PrintIsNoWordShows }
 {}
 
 /// The object and its fields are named before they are used.
@@ -28,12 +28,12 @@ pub fn wrong_names()
     ensures { WrongNamesShow }
 {}
 
-/// An expression is a number, a sum of two, or a field.
+/// An expression is a small number, a sum of two, or a field.
 pub fn wrong_values()
     ensures { WrongValuesShow }
 {}
 
-/// A word of the language is no name.
-pub fn a_word()
-    ensures { WordShows }
+/// A `def` leaves the form too.
+pub fn defs()
+    ensures { DefsShow }
 {}

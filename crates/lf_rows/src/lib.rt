@@ -1,11 +1,25 @@
 //! The worked rows: tests that cross crates. Each row is a call of the program
 //! over a source and a sink in memory, with the text, the status and the journal
-//! that it must give. A row is added to the table; the loop stays as it is.
+//! that it must give. A row is added to a table; the loops stay as they are.
 //!
 //! It stands on `lf_app`, `lf_base` and `lf_outside`, and promises nothing.
 #![tactic(auto)]
 
 #[cfg(test)]
+mod check_rows;
+#[cfg(test)]
+mod first_form_rows;
+#[cfg(test)]
+mod long_scripts;
+#[cfg(test)]
+mod not_built_rows;
+#[cfg(test)]
+mod refusal_rows;
+#[cfg(test)]
+mod row;
+#[cfg(test)]
 mod rows;
 #[cfg(test)]
-mod table;
+mod stream_rows;
+#[cfg(test)]
+mod word_rows;

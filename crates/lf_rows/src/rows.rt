@@ -1,4 +1,11 @@
-use crate::table::{Row, WHOLE, rows};
+use crate::check_rows::check_rows;
+use crate::first_form_rows::first_form_rows;
+use crate::long_scripts::{LongScript, Repeated, long_scripts};
+use crate::not_built_rows::not_built_rows;
+use crate::refusal_rows::refusal_rows;
+use crate::row::{Row, WHOLE};
+use crate::stream_rows::stream_rows;
+use crate::word_rows::word_rows;
 use lf_app::{MainStore, Report, Status, Word, tool, top};
 use lf_base::OutOfMemory;
 use lf_outside::{MemSink, MemSource, NoGate};
@@ -44,18 +51,81 @@ fn check_row<R: Abort>(rt: &R, alloc: Global, row: &Row, by_top: bool) -> Result
     Ok(())
 }
 
-#[test]
-fn each_row_is_what_tool_answers(rt: HostRuntime) -> Result<(), Fail> {
-    for row in rows() {
-        check_row(&rt, rt.alloc(), row, false)?;
+// Tries the rows of a table through both ways into the program.
+fn check_rows_of<R: Abort>(rt: &R, alloc: Global, rows: &[Row]) -> Result<(), OutOfMemory> {
+    for row in rows {
+        check_row(rt, alloc, row, false)?;
+        check_row(rt, alloc, row, true)?;
     }
     Ok(())
 }
 
 #[test]
-fn each_row_is_what_top_answers(rt: HostRuntime) -> Result<(), Fail> {
-    for row in rows() {
-        check_row(&rt, rt.alloc(), row, true)?;
+fn scripts_run(rt: HostRuntime) -> Result<(), Fail> {
+    check_rows_of(&rt, rt.alloc(), first_form_rows())?;
+    Ok(())
+}
+
+#[test]
+fn scripts_do_not_run_yet(rt: HostRuntime) -> Result<(), Fail> {
+    check_rows_of(&rt, rt.alloc(), not_built_rows())?;
+    Ok(())
+}
+
+#[test]
+fn scripts_are_refused(rt: HostRuntime) -> Result<(), Fail> {
+    check_rows_of(&rt, rt.alloc(), refusal_rows())?;
+    Ok(())
+}
+
+#[test]
+fn scripts_are_checked(rt: HostRuntime) -> Result<(), Fail> {
+    check_rows_of(&rt, rt.alloc(), check_rows())?;
+    Ok(())
+}
+
+#[test]
+fn words_are_refused(rt: HostRuntime) -> Result<(), Fail> {
+    check_rows_of(&rt, rt.alloc(), word_rows())?;
+    Ok(())
+}
+
+#[test]
+fn sources_and_sinks_are_slow_or_fail(rt: HostRuntime) -> Result<(), Fail> {
+    check_rows_of(&rt, rt.alloc(), stream_rows())?;
+    Ok(())
+}
+
+// The script that these parts make.
+fn script_of(alloc: Global, parts: &[Repeated]) -> Result<String, OutOfMemory> {
+    let mut script = String::new(alloc);
+    for repeated in parts {
+        for _turn in 0..repeated.times {
+            script.push_str(repeated.part)?;
+        }
+    }
+    Ok(script)
+}
+
+fn check_long<R: Abort>(rt: &R, alloc: Global, long: &LongScript) -> Result<(), OutOfMemory> {
+    let words = words_of(alloc, &["check"])?;
+    let script = script_of(alloc, long.parts)?;
+    let mut source = MemSource::new(alloc, script.as_bytes(), 100_000, WHOLE.failing)?;
+    let mut sink = MemSink::new(alloc, 100, 100, WHOLE.failing)?;
+    let words = words.as_slice();
+    tool::<R, MainStore, _, _, _>(rt, alloc, words, &mut source, &mut sink, &NoGate);
+    assert!(rt;
+        sink.bytes() == long.text.as_bytes(),
+        "{}: the text",
+        long.name
+    );
+    Ok(())
+}
+
+#[test]
+fn limits_are_kept(rt: HostRuntime) -> Result<(), Fail> {
+    for long in long_scripts() {
+        check_long(&rt, rt.alloc(), long)?;
     }
     Ok(())
 }

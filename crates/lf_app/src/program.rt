@@ -1,0 +1,96 @@
+ghost use Rattle.std.specs.Prelude.{◌≡◌, ◌<◌, ◌-◌, ◌^◌, []};
+ghost use Rattle.lf_outside.specs.Streams.{stream};
+ghost use Rattle.lf_app.specs.Answers.{Answers, IsComplete, call};
+ghost use Rattle.lf_app.specs.Outcomes.{WritesOutcome};
+
+use crate::commands::Command;
+use crate::outcomes::Outcome;
+use crate::reports::Report;
+use crate::script::judge;
+use crate::statuses::Status;
+use crate::word_list::Word;
+use lf_base::{MOST_SCRIPT_BYTES, Order};
+use lf_outside::{Gate, ReadStop, Sink, Source, read_all, write_all};
+use std::alloc::Global;
+
+/// The store that the program keeps its rows in. No row is kept yet.
+pub struct MainStore;
+
+// A report of a call in which no run began.
+fn ended(alloc: Global, status: Status) -> Report
+    ensures status { result.status ≡ status }
+    ensures order { result.order ≡ [] }
+{
+    Report {
+        status,
+        order: Order::new(alloc),
+    }
+}
+
+// Writes the text of an outcome.
+fn write_outcome<K: Sink>(out: &mut K, outcome: Outcome) -> Report
+    ensures { WritesOutcome (stream (K.held out.old) (K.faults out.old)) (stream (K.held out.new) (K.faults out.new)) outcome result }
+{
+    let status = match write_all(out, outcome.text.as_bytes()) {
+        Ok(()) => outcome.status,
+        Err(_) => Status::WriteFault,
+    };
+    Report {
+        status,
+        order: outcome.order,
+    }
+}
+
+/// All that the program does, for all words but those of a free schedule: it reads a script from
+/// the source, runs or checks it, and writes what comes of it to the sink.
+///
+/// `Answers` says what each status means of the source, the sink and the journal; `IsComplete`
+/// that the status is the due one, or want of memory, where neither of them failed.
+pub fn tool<R, H, S: Source, K: Sink, G: Gate>(
+    _rt: &R,
+    alloc: Global,
+    words: &[Word],
+    script: &mut S,
+    out: &mut K,
+    _gate: &G,
+) -> Report
+    requires source { S.faults script.old < 2 ^ 64 - 1 }
+    requires sink { K.faults out.old < 2 ^ 64 - 1 }
+    ensures answers { Answers (call words.now (stream (S.left script.old) (S.faults script.old)) (stream (S.left script.new) (S.faults script.new))
+        (stream (K.held out.old) (K.faults out.old)) (stream (K.held out.new) (K.faults out.new))) result }
+    ensures complete { IsComplete (call words.now (stream (S.left script.old) (S.faults script.old)) (stream (S.left script.new) (S.faults script.new))
+        (stream (K.held out.old) (K.faults out.old)) (stream (K.held out.new) (K.faults out.new))) result }
+{
+    let Some(command) = Command::from_words(words) else {
+        return ended(alloc, Status::WordsRefused);
+    };
+    let bytes = match read_all(alloc, script, MOST_SCRIPT_BYTES) {
+        Ok(bytes) => bytes,
+        Err(ReadStop::Fault) => return ended(alloc, Status::ReadFault),
+        Err(ReadStop::TooLong) => return ended(alloc, Status::ScriptTooLong),
+        Err(ReadStop::OutOfMemory) => return ended(alloc, Status::OutOfMemory),
+    };
+    let Ok(outcome) = judge(alloc, command, bytes.as_slice()) else {
+        return ended(alloc, Status::OutOfMemory);
+    };
+    write_outcome(out, outcome)
+}
+
+/// All that the program does. It is what `main` calls, and answers the report of [`tool`].
+pub fn top<R, H, S: Source, K: Sink, G: Gate>(
+    rt: &R,
+    alloc: Global,
+    words: &[Word],
+    script: &mut S,
+    out: &mut K,
+    gate: &G,
+) -> Report
+    requires source { S.faults script.old < 2 ^ 64 - 1 }
+    requires sink { K.faults out.old < 2 ^ 64 - 1 }
+    ensures answers { Answers (call words.now (stream (S.left script.old) (S.faults script.old)) (stream (S.left script.new) (S.faults script.new))
+        (stream (K.held out.old) (K.faults out.old)) (stream (K.held out.new) (K.faults out.new))) result }
+    ensures complete { IsComplete (call words.now (stream (S.left script.old) (S.faults script.old)) (stream (S.left script.new) (S.faults script.new))
+        (stream (K.held out.old) (K.faults out.old)) (stream (K.held out.new) (K.faults out.new))) result }
+{
+    tool::<R, H, S, K, G>(rt, alloc, words, script, out, gate)
+}

@@ -1,0 +1,51 @@
+use crate::row::{CHECKED, REFUSED, Row};
+
+// Scripts under `check`.
+static ROWS: [Row; 7] = [
+    Row {
+        name: "check: empty",
+        script: "",
+        ..CHECKED
+    },
+    Row {
+        name: "check: first_sum",
+        script: "x = {}\nx.f = 41 + 1\nprint(x.f)\n",
+        ..CHECKED
+    },
+    Row {
+        name: "check: a script that doesn't run yet",
+        script: "x = 1\nwhile x < 3:\n    x = x + 1\n",
+        ..CHECKED
+    },
+    Row {
+        name: "check: accounts",
+        script: "def account(n):\n    r = Region()\n    r.balance = n\n    return Cown(move r)\ndef pay(a, b, n):\n    when a, b with n:\n        a.value.balance = a.value.balance - n\n        b.value.balance = b.value.balance + n\nx = account(100)\ny = account(50)\npay(x, y, 30)\npay(y, x, 10)\npay(x, y, 6)\nwhen x, y:\n    print(x.value.balance, y.value.balance)\n",
+        ..CHECKED
+    },
+    Row {
+        name: "check: a smaller indentation that equals none",
+        words: &["check"],
+        script: "while True:\n    pass\n pass",
+        text: "refused BadIndent at line 3 column 2\n",
+        ..REFUSED
+    },
+    Row {
+        name: "check: a bad byte",
+        words: &["check"],
+        script: "x = !",
+        text: "refused BadByte at line 1 column 5\n",
+        ..REFUSED
+    },
+    Row {
+        name: "check: an unknown name",
+        words: &["check"],
+        script: "x = y",
+        text: "refused UnknownName at line 1 column 5\n",
+        ..REFUSED
+    },
+];
+
+/// The scripts under `check`.
+pub fn check_rows() -> &'static [Row] {
+    &ROWS
+}
