@@ -16,4 +16,3 @@ pub mod Totals
 pub mod Orders
 pub mod LineOrders
 pub mod Named
-pub mod FirstForm

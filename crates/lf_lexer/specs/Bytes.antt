@@ -1,7 +1,5 @@
 -- The kinds of bytes that tokens are made of.
 use Rattle.std.specs.Prelude.{◌≡◌, ℕ, ◌==◌, ◌||◌, ◌&&◌, Bool, not, true, false, List, [], ◌∷◌, codes, nat_le}
-use Rattle.std.specs.List.{list_any}
-use Rattle.std.specs.Str.{bytes_eq}
 
 -- `0` to `9`
 abbrev pub is_digit : ℕ → Bool
@@ -20,9 +18,6 @@ abbrev pub words : List (List ℕ)
 words =
     codes "and" ∷ codes "def" ∷ codes "drop" ∷ codes "elif" ∷ codes "else" ∷ codes "False" ∷ codes "if" ∷ codes "move"
     ∷ codes "None" ∷ codes "not" ∷ codes "or" ∷ codes "pass" ∷ codes "return" ∷ codes "True" ∷ codes "when" ∷ codes "while" ∷ codes "with" ∷ []
-
-abbrev pub is_word : List ℕ → Bool
-is_word bytes = list_any (bytes_eq bytes) words
 
 -- what stands in a text for itself
 abbrev pub is_text_byte : ℕ → Bool

@@ -16,4 +16,3 @@ pub mod FrontWithin
 pub mod Meaning
 pub mod Lexed
 pub mod Lexing
-pub mod FirstForm

@@ -3,12 +3,10 @@
 //! It stands on `lf_base`. `lex` promises the tokens, places, spans and texts that
 //! the script's bytes spell, or the first refusal of its bytes, with kind and place.
 //! `laws` promises that each list of bytes is spelled once or refused once, and never
-//! both, and says how the tokens of every script lie. `lex_first_form` is the lexer
-//! of the first form alone, and serves `run` until the whole language is read.
+//! both, and says how the tokens of every script lie.
 #![tactic(auto)]
 
 mod bytes;
-pub mod first_form;
 mod front;
 mod indent;
 pub mod laws;
@@ -21,7 +19,6 @@ mod script;
 mod texts;
 mod tokens;
 
-pub use first_form::script::lex_first_form;
 pub use lexed::Lexed;
 pub use script::lex;
 pub use tokens::{Lexeme, Mark, Token, Tokens};
