@@ -12,7 +12,7 @@ use Rattle.lf_codegen.specs.NameRefusals.{IsFirstOf}
 abbrev Before : Place → Place → Type 0
 Before a b = (a.line < b.line) ⊎ ((a.line ≡ b.line) × (a.column < b.column))
 
-abbrev NotBefore : Place → Place → Type 0
+abbrev pub NotBefore : Place → Place → Type 0
 NotBefore a b = (b.line < a.line) ⊎ ((b.line ≡ a.line) × (b.column ≤ a.column))
 
 module _ (a b : Place) where
@@ -38,7 +38,7 @@ module _ (a b : Place) where
     before_of (inl p) = p.0
     before_of (inr p) = let e = p.1 in absurd cc
 
-  not_before_from : place_before a b ≡ false → NotBefore a b
+  pub not_before_from : place_before a b ≡ false → NotBefore a b
   not_before_from h = not_of decided where
     not_of : (Before a b × (place_before a b ≡ true)) ⊎ (NotBefore a b × (place_before a b ≡ false)) → NotBefore a b
     not_of (inl p) = let e = p.1 in absurd cc

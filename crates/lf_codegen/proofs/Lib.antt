@@ -3,6 +3,9 @@ pub mod First
 pub mod FunctionTables
 pub mod Judging
 pub mod Loops
+pub mod MentionedNames
+pub mod OneAnswer
 pub mod Reasons
+pub mod RefusalPlaces
 pub mod Rising
 pub mod SetsOfNames

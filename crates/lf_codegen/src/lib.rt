@@ -12,6 +12,7 @@ mod callees;
 mod first_refusal;
 mod frame;
 mod frames;
+pub mod laws;
 mod lists;
 mod mention;
 mod mentions;

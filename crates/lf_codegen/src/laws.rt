@@ -1,0 +1,19 @@
+//! What was proved of scripts, their names and their refusals, whatever reads them.
+
+ghost use Rattle.std.specs.Prelude.{◌≡◌, ℕ, List};
+ghost use Rattle.lf_base.specs.declared.refusals.Refusal.{Refusal};
+ghost use Rattle.lf_base.specs.Texts.{Text};
+ghost use Rattle.lf_parser.specs.Plain.{PlainTree};
+ghost use Rattle.lf_codegen.specs.Reading.{IsFirstRefusal, IsParsed, IsRead};
+
+/// Some bytes spell one list of texts and one tree at most, and have one first refusal at
+/// most; and never both, where the tree's names and calls are right. So `read` answers a
+/// script exactly where there is one, want of memory aside.
+pub fn one_answer()
+    ensures texts { (bytes : List ℕ) (x y : List Text) (t u : PlainTree) → IsParsed bytes x t → IsParsed bytes y u → x ≡ y }
+    ensures tree { (bytes : List ℕ) (x y : List Text) (t u : PlainTree) → IsParsed bytes x t → IsParsed bytes y u → t ≡ u }
+    ensures read_texts { (bytes : List ℕ) (x y : List Text) (t u : PlainTree) → IsRead bytes x t → IsRead bytes y u → x ≡ y }
+    ensures read_tree { (bytes : List ℕ) (x y : List Text) (t u : PlainTree) → IsRead bytes x t → IsRead bytes y u → t ≡ u }
+    ensures refusal { (bytes : List ℕ) (r s : Refusal) → IsFirstRefusal bytes r → IsFirstRefusal bytes s → r ≡ s }
+    ensures read_or_refused { (bytes : List ℕ) (x : List Text) (t : PlainTree) (r : Refusal) → IsRead bytes x t → ¬ IsFirstRefusal bytes r }
+{}
