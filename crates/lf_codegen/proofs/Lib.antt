@@ -1,4 +1,5 @@
 pub mod Arguments
+pub mod Counted
 pub mod First
 pub mod FunctionTables
 pub mod Judging
@@ -9,3 +10,4 @@ pub mod Reasons
 pub mod RefusalPlaces
 pub mod Rising
 pub mod SetsOfNames
+pub mod WhenOrder

@@ -24,7 +24,7 @@ both : (ms ns : List Mention) (xs ys : List Name) → names_of ms ≡ xs → nam
 both ms ns xs ys h k = map-append mentioned ms ns ∙ ap₂ (λ us vs. us ++ vs) h k
 
 mutual
-  expr_named : (e : PlainExpr) → names_of (expr_mentions e) ≡ expr_names e
+  pub expr_named : (e : PlainExpr) → names_of (expr_mentions e) ≡ expr_names e
   expr_named plain.Nothing = refl
   expr_named plain.Yes = refl
   expr_named plain.No = refl
@@ -46,11 +46,11 @@ mutual
   args_named no_args = refl
   args_named (arg e es) = both (expr_mentions e) (args_mentions es) _ _ (expr_named e) (args_named es)
 
-value_named : (value : Option PlainExpr) → names_of (value_mentions value) ≡ value_names value
+pub value_named : (value : Option PlainExpr) → names_of (value_mentions value) ≡ value_names value
 value_named None = refl
 value_named (Some e) = expr_named e
 
-uses_named : (names : List Name) → names_of (uses names) ≡ names
+pub uses_named : (names : List Name) → names_of (uses names) ≡ names
 uses_named [] = refl
 uses_named (x ∷ xs) = ap (λ l. x ∷ l) (uses_named xs)
 

@@ -1,7 +1,6 @@
 -- Some bytes have one answer at most: one script, or one first refusal.
-use Rattle.std.proofs.Common.{◌≡◌, ℕ, ◌<◌, ◌≤◌, ◌⊎◌, List, [], ◌∷◌, Bool, true, cond, count_by, refl, ap, sym, ◌∙◌, subst, inl, inr, arith}
+use Rattle.std.proofs.Common.{◌≡◌, ℕ, ◌<◌, ◌≤◌, ◌⊎◌, List, true, count_by, refl, ap, sym, ◌∙◌, subst, inl, inr, arith}
 use Rattle.std.proofs.lemmas.Bool.{eq-eqb}
-use Rattle.std.proofs.lemmas.List.Sums.{sum_by-cons}
 use Rattle.lf_base.specs.declared.refusals.Place.{Place}
 use Rattle.lf_base.specs.declared.refusals.Refusal.{Refusal}
 use Rattle.lf_base.specs.Sets.{Member}
@@ -9,37 +8,24 @@ use Rattle.lf_base.specs.Texts.{Text}
 use Rattle.lf_base.proofs.Dropped.{and_join}
 use Rattle.lf_lexer.specs.declared.tokens.Token.{Token}
 use Rattle.lf_lexer.specs.Reading.{Spells}
+use Rattle.lf_lexer.proofs.LineOrders.{tokens_on_lines}
 use Rattle.lf_lexer.proofs.Orders.{tokens_in_order}
 use Rattle.lf_lexer.proofs.ScriptOutcomes.{tokens_once, texts_once, refusal_once, never_both}
 use Rattle.lf_parser.specs.Plain.{PlainTree}
 use Rattle.lf_parser.specs.Refusals as parser
+use Rattle.lf_parser.specs.TreeLines.{LinesInOrder}
 use Rattle.lf_parser.specs.TreeNames.{same_place, NamesInOrder}
 use Rattle.lf_parser.proofs.Exact.{limits_levels}
 use Rattle.lf_parser.proofs.LawsOfTrees.{one_tree, tree_or_refusal, one_refusal}
+use Rattle.lf_parser.proofs.ScriptLines.{lines_in_order}
 use Rattle.lf_parser.proofs.ScriptNames.{names_in_order}
 use Rattle.lf_codegen.specs.NameRefusals.{Resolves, IsFirstOf, refusals}
 use Rattle.lf_codegen.specs.Reading.{IsParsed, IsRead, TokensRefused, NamesRefused, IsFirstRefusal}
+use Rattle.lf_codegen.proofs.Counted.{one_passes}
 use Rattle.lf_codegen.proofs.First.{not_before_from}
 use Rattle.lf_codegen.proofs.RefusalPlaces.{refused_at, refused_names}
 
 -- ---- the first of some refusals, where no two stand at one place
-counted : {X : Type 0} (p : X → Bool) (x : X) (xs : List X) → Member x xs → p x ≡ true → 1 ≤ count_by p xs
-counted p x [] m e = absurd m
-counted p x (y ∷ ys) (inl same) e = omega (arith, sum_by-cons (λ z. cond (p z) 1 0) y ys, ap {B = ℕ} (λ z. cond (p z) 1 0) same, ap {B = ℕ} (λ b. cond b 1 0) e)
-counted p x (y ∷ ys) (inr m) e = omega (arith, sum_by-cons (λ z. cond (p z) 1 0) y ys, counted p x ys m e)
-
--- an item for which the test holds, before another one
-twice : {X : Type 0} (p : X → Bool) (x y z : X) (zs : List X) → count_by p (z ∷ zs) ≤ 1 → z ≡ x → p x ≡ true → Member y zs → p y ≡ true → ⊥
-twice p x y z zs le same e m f =
-    omega (arith, sum_by-cons (λ w. cond (p w) 1 0) z zs, ap {B = ℕ} (λ w. cond (p w) 1 0) same, ap {B = ℕ} (λ b. cond b 1 0) e, counted p y zs m f)
-
-one_passes : {X : Type 0} (p : X → Bool) (x y : X) (xs : List X) → count_by p xs ≤ 1 → Member x xs → Member y xs → p x ≡ true → p y ≡ true → x ≡ y
-one_passes p x y [] le m n e f = absurd m
-one_passes p x y (z ∷ zs) le (inl a) (inl b) e f = sym a ∙ b
-one_passes p x y (z ∷ zs) le (inl a) (inr n) e f = absurd (twice p x y z zs le a e n f)
-one_passes p x y (z ∷ zs) le (inr m) (inl b) e f = absurd (twice p y x z zs le b f m e)
-one_passes p x y (z ∷ zs) le (inr m) (inr n) e f = one_passes p x y zs (omega (arith, sum_by-cons (λ w. cond (p w) 1 0) z zs)) m n e f
-
 at_one_place : (a b : Place) → (a.line < b.line) ⊎ ((a.line ≡ b.line) × (a.column ≤ b.column)) → (b.line < a.line) ⊎ ((b.line ≡ a.line) × (b.column ≤ a.column)) → same_place a b ≡ true
 at_one_place a b (inl h) (inl k) = absurd (omega arith)
 at_one_place a b (inl h) (inr k) = absurd (omega (arith, k.0))
@@ -73,6 +59,9 @@ module _ (bytes : List ℕ) where
 
   pub parsed_names : (x : List Text) (t : PlainTree) → IsParsed bytes x t → NamesInOrder t
   parsed_names x t p = names_in_order p.tokens t (tokens_in_order bytes p.tokens x p.spelled) (derives p.tokens t p.derived)
+
+  pub parsed_lines : (x : List Text) (t : PlainTree) → IsParsed bytes x t → LinesInOrder t
+  parsed_lines x t p = lines_in_order p.tokens t (tokens_on_lines bytes p.tokens x p.spelled) (derives p.tokens t p.derived)
 
   -- ---- one refusal
   spelled_not_refused : (ts us : List Token) (x y : List Text) (t : PlainTree) (r : Refusal) → Spells bytes ts x → parser.IsTree ts t → Spells bytes us y → parser.IsRefusal us r → ⊥

@@ -1,5 +1,5 @@
 -- No two refusals of names and calls stand at one place.
-use Rattle.std.proofs.Common.{◌≡◌, ℕ, ◌+◌, ◌≤◌, List, [], ◌∷◌, ◌++◌, Bool, true, false, cond, ltb, map, flat_map, sum_by, count_by, Option, Some, None, is_some, refl, arith}
+use Rattle.std.proofs.Common.{◌≡◌, ℕ, ◌+◌, ◌≤◌, List, [], ◌∷◌, ◌++◌, Bool, cond, map, flat_map, sum_by, count_by, Option, Some, None, is_some, refl, arith}
 use Rattle.std.proofs.lemmas.List.Sums.{sum_by-cons, sum_by-append}
 use Rattle.lf_base.specs.declared.refusals.Place.{Place}
 use Rattle.lf_base.specs.declared.refusals.Refusal.{Refusal}
@@ -12,28 +12,12 @@ use Rattle.lf_parser.specs.TreeNames.{block_names, function_names, functions_nam
 use Rattle.lf_codegen.specs.declared.mention.Mention.{Mention}
 use Rattle.lf_codegen.specs.declared.mention.Mention.TheVariants.{Use, Bind, Call}
 use Rattle.lf_codegen.specs.Mentions.{block_mentions}
-use Rattle.lf_codegen.specs.Frames.{PlainFrame, placed, rising, line_of, block_whens, function_whens, when_frames, main_frame, function_frame, frames, bound, is_among}
+use Rattle.lf_codegen.specs.Frames.{PlainFrame, line_of, block_whens, function_whens, when_frames, main_frame, function_frame, frames, bound, is_among}
 use Rattle.lf_codegen.specs.Callees.{callee_of}
 use Rattle.lf_codegen.specs.NameRefusals.{refusals_at, kind_where, mention_refusals, frame_refusals, repeats, params_refusals, names_refusals, refusals}
+use Rattle.lf_codegen.proofs.Counted.{flat_bound}
+use Rattle.lf_codegen.proofs.Rising.{rising_sum}
 use Rattle.lf_codegen.proofs.MentionedNames.{mentioned, times, times_in, block_times}
-
--- a sum over what each item brings
-flat_bound : {X Y : Type 0} (p : Y → Bool) (f : X → List Y) (g : X → ℕ) → ((x : X) → count_by p (f x) ≤ g x) → (xs : List X) → count_by p (flat_map f xs) ≤ sum_by g xs
-flat_bound p f g h [] = omega arith
-flat_bound p f g h (x ∷ xs) = omega (arith, sum_by-append (λ y. cond (p y) 1 0) (f x) (flat_map f xs), sum_by-cons g x xs, h x, flat_bound p f g h xs)
-
--- a sort keeps a sum
-module _ {X : Type 0} (key f : X → ℕ) where
-  placed_sum : (x : X) (ys : List X) → sum_by f (placed key x ys) ≡ f x + sum_by f ys
-  placed_sum x [] = sum_by-cons f x []
-  placed_sum x (y ∷ ys) = elim (ltb (key y) (key x)) as (λ b. sum_by f (cond b (y ∷ placed key x ys) (x ∷ (y ∷ ys))) ≡ f x + sum_by f (y ∷ ys)) [
-    | true ↦ omega (arith, sum_by-cons f y (placed key x ys), sum_by-cons f y ys, placed_sum x ys)
-    | false ↦ sum_by-cons f x (y ∷ ys)
-  ]
-
-  rising_sum : (xs : List X) → sum_by f (rising key xs) ≡ sum_by f xs
-  rising_sum [] = refl
-  rising_sum (x ∷ xs) = omega (arith, placed_sum x (rising key xs), rising_sum xs, sum_by-cons f x xs)
 
 module _ (place : Place) where
   abbrev pub refused_at : Refusal → Bool

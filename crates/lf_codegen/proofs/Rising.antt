@@ -1,5 +1,7 @@
 -- A stable sort by a number gives the items by rising key.
-use Rattle.std.proofs.Common.{◌≡◌, ◌≤◌, ◌<◌, ℕ, suc, Bool, true, false, cond, not, ◌&&◌, ◌==◌, ltb, List, [], ◌∷◌, length, map, filter, get_or, refl, ap, sym, subst, ◌∙◌, arith}
+use Rattle.std.proofs.Common.{◌≡◌, ◌≤◌, ◌<◌, ℕ, suc, Bool, true, false, cond, not, ◌&&◌, ◌==◌, ltb, List, [], ◌∷◌, length, map, filter, get_or, refl, ap, sym, subst, ◌∙◌, arith, ◌+◌, ◌⊎◌, inl, inr, sum_by}
+use Rattle.std.proofs.lemmas.List.Sums.{sum_by-cons}
+use Rattle.lf_base.specs.Sets.{Member}
 use Rattle.std.proofs.lemmas.Bool.{eq-eqb, eqb-true, ltb-true, ltb-false}
 use Rattle.std.specs.List.Sorted.{IsNonDecreasingBy, IsStableByKey}
 use Rattle.std.specs.Ordering.{MatchOrdering, nat_cmp, is_lt}
@@ -14,12 +16,12 @@ module _ {X : Type 0} (key : X → ℕ) where
   of_key n xs = filter (λ x. key x == n) xs
 
   -- no key is below n
-  abbrev Above : ℕ → List X → Type 0
+  abbrev pub Above : ℕ → List X → Type 0
   Above n [] = Unit {0}
   Above n (x ∷ xs) = (n ≤ key x) × Above n xs
 
   -- the keys don't fall
-  abbrev Up : List X → Type 0
+  abbrev pub Up : List X → Type 0
   Up [] = Unit {0}
   Up (x ∷ xs) = Above (key x) xs × Up xs
 
@@ -86,7 +88,7 @@ module _ {X : Type 0} (key : X → ℕ) where
     | false ↦ λ h. let l = ltb-false (key y) (key x) h in ((l, lower (key x) (key y) ys l u.0), u)
   ] refl
 
-  up_rising : (xs : List X) → Up (rising key xs)
+  pub up_rising : (xs : List X) → Up (rising key xs)
   up_rising [] = tt
   up_rising (x ∷ xs) = up_placed x (rising key xs) (up_rising xs)
 
@@ -115,6 +117,31 @@ module _ {X : Type 0} (key : X → ℕ) where
   -- items that don't fall, with the items of each key in their order
   pub is_rising : (xs ys : List X) → IsNonDecreasingBy key ys → ((x : X) → of_key (key x) ys ≡ of_key (key x) xs) → ys ≡ rising key xs
   is_rising xs ys up e = one_order ys (rising key xs) (up_from ys up) (up_rising xs) (λ x. e x ∙ sym (key_rising (key x) xs))
+
+-- a sort keeps a sum, and brings no item
+module _ {X : Type 0} (key f : X → ℕ) where
+  placed_sum : (x : X) (ys : List X) → sum_by f (placed key x ys) ≡ f x + sum_by f ys
+  placed_sum x [] = sum_by-cons f x []
+  placed_sum x (y ∷ ys) = elim (ltb (key y) (key x)) as (λ b. sum_by f (cond b (y ∷ placed key x ys) (x ∷ (y ∷ ys))) ≡ f x + sum_by f (y ∷ ys)) [
+    | true ↦ omega (arith, sum_by-cons f y (placed key x ys), sum_by-cons f y ys, placed_sum x ys)
+    | false ↦ sum_by-cons f x (y ∷ ys)
+  ]
+
+  pub rising_sum : (xs : List X) → sum_by f (rising key xs) ≡ sum_by f xs
+  rising_sum [] = refl
+  rising_sum (x ∷ xs) = omega (arith, placed_sum x (rising key xs), rising_sum xs, sum_by-cons f x xs)
+
+module _ {X : Type 0} (key : X → ℕ) where
+  of_placed : (x y : X) (ys : List X) → Member y (placed key x ys) → (x ≡ y) ⊎ Member y ys
+  of_placed x y [] m = m
+  of_placed x y (z ∷ zs) m = elim (ltb (key z) (key x)) as (λ b. Member y (cond b (z ∷ placed key x zs) (x ∷ (z ∷ zs))) → (x ≡ y) ⊎ Member y (z ∷ zs)) [
+    | true ↦ λ n. elim n [ inl e ↦ inr (inl e) | inr k ↦ elim (of_placed x y zs k) [ inl e ↦ inl e | inr l ↦ inr (inr l) ] ]
+    | false ↦ λ n. n
+  ] m
+
+  pub of_rising : (y : X) (xs : List X) → Member y (rising key xs) → Member y xs
+  of_rising y [] m = m
+  of_rising y (x ∷ xs) m = elim (of_placed x y (rising key xs) m) [ inl e ↦ inl e | inr k ↦ inr (of_rising y xs k) ]
 
 -- what is made of each item, where the key is kept
 pub map_placed : {X Y : Type 0} (f : X → Y) (key : Y → ℕ) (x : X) (ys : List X) → map f (placed (λ z. key (f z)) x ys) ≡ placed key (f x) (map f ys)

@@ -1,9 +1,11 @@
 //! What was proved of scripts, their names and their refusals, whatever reads them.
 
-ghost use Rattle.std.specs.Prelude.{◌≡◌, ℕ, List};
+ghost use Rattle.std.specs.Prelude.{◌≡◌, ℕ, ltb, List, map};
 ghost use Rattle.lf_base.specs.declared.refusals.Refusal.{Refusal};
 ghost use Rattle.lf_base.specs.Texts.{Text};
 ghost use Rattle.lf_parser.specs.Plain.{PlainTree};
+ghost use Rattle.lf_parser.specs.Risings.{Rising};
+ghost use Rattle.lf_codegen.specs.Frames.{line_of, when_frames};
 ghost use Rattle.lf_codegen.specs.Reading.{IsFirstRefusal, IsParsed, IsRead};
 
 /// Some bytes spell one list of texts and one tree at most, and have one first refusal at
@@ -16,4 +18,9 @@ pub fn one_answer()
     ensures read_tree { (bytes : List ℕ) (x y : List Text) (t u : PlainTree) → IsRead bytes x t → IsRead bytes y u → t ≡ u }
     ensures refusal { (bytes : List ℕ) (r s : Refusal) → IsFirstRefusal bytes r → IsFirstRefusal bytes s → r ≡ s }
     ensures read_or_refused { (bytes : List ℕ) (x : List Text) (t : PlainTree) (r : Refusal) → IsRead bytes x t → ¬ IsFirstRefusal bytes r }
+{}
+
+/// The frames of a script's `when`s are in the order of their lines, and no two have one line.
+pub fn whens_in_order()
+    ensures { (bytes : List ℕ) (x : List Text) (t : PlainTree) → IsParsed bytes x t → Rising ltb (map line_of (when_frames t)) }
 {}

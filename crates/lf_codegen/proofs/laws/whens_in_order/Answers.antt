@@ -1,0 +1,6 @@
+use Rattle.lf_codegen.proofs.OneAnswer.{parsed_lines}
+use Rattle.lf_codegen.proofs.WhenOrder.{whens_rise}
+use Rattle.lf_codegen.proofs.laws.whens_in_order.Goals as goal
+
+pub returns : goal.returns
+returns c bytes x t parsed = whens_rise t (parsed_lines bytes x t parsed)
