@@ -10,4 +10,5 @@ pub mod Reasons
 pub mod RefusalPlaces
 pub mod Rising
 pub mod SetsOfNames
+pub mod VariableOrder
 pub mod WhenOrder

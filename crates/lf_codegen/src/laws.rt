@@ -2,10 +2,12 @@
 
 ghost use Rattle.std.specs.Prelude.{◌≡◌, ℕ, ltb, List, map};
 ghost use Rattle.lf_base.specs.declared.refusals.Refusal.{Refusal};
+ghost use Rattle.lf_base.specs.Sets.{Member};
 ghost use Rattle.lf_base.specs.Texts.{Text};
 ghost use Rattle.lf_parser.specs.Plain.{PlainTree};
 ghost use Rattle.lf_parser.specs.Risings.{Rising};
-ghost use Rattle.lf_codegen.specs.Frames.{line_of, when_frames};
+ghost use Rattle.lf_parser.specs.TreeNames.{stands_before};
+ghost use Rattle.lf_codegen.specs.Frames.{PlainFrame, frames, line_of, variables, when_frames};
 ghost use Rattle.lf_codegen.specs.Reading.{IsFirstRefusal, IsParsed, IsRead};
 
 /// Some bytes spell one list of texts and one tree at most, and have one first refusal at
@@ -23,4 +25,11 @@ pub fn one_answer()
 /// The frames of a script's `when`s are in the order of their lines, and no two have one line.
 pub fn whens_in_order()
     ensures { (bytes : List ℕ) (x : List Text) (t : PlainTree) → IsParsed bytes x t → Rising ltb (map line_of (when_frames t)) }
+{}
+
+/// In each frame of a script, the variables in the order of their numbers stand one behind
+/// the other by line and column: a function's parameters and the names of a `when` before the
+/// variables of the body.
+pub fn variables_in_order()
+    ensures { (bytes : List ℕ) (x : List Text) (t : PlainTree) (f : PlainFrame) → IsParsed bytes x t → Member f (frames t) → Rising stands_before (variables f) }
 {}

@@ -1,0 +1,6 @@
+use Rattle.lf_codegen.proofs.OneAnswer.{parsed_names}
+use Rattle.lf_codegen.proofs.VariableOrder.{variables_rise}
+use Rattle.lf_codegen.proofs.laws.variables_in_order.Goals as goal
+
+pub returns : goal.returns
+returns c bytes x t f parsed m = variables_rise t (parsed_names bytes x t parsed) f m
