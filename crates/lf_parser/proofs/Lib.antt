@@ -10,6 +10,7 @@ pub mod StatementRules
 pub mod ScriptRules
 pub mod Exact
 pub mod Parsed
+pub mod Decided
 pub mod LawsOfTrees
 pub mod Steps
 pub mod Turns

@@ -1,5 +1,5 @@
 -- Tokens that some script spells end once, and are few.
-use Rattle.std.proofs.Common.{Bool, List, Some, [], ap, arith, false, length, true, ℕ, zero, suc, ◌*◌, ◌+◌, ◌<◌, ◌≤◌, ◌^◌, ◌∷◌, ◌≡◌}
+use Rattle.std.proofs.Common.{List, Some, [], ap, arith, true, ℕ, ◌≤◌, ◌∷◌, ◌≡◌}
 use Rattle.lf_base.specs.Texts.{Text}
 use Rattle.lf_lexer.specs.declared.tokens.Lexeme.{Lexeme}
 use Rattle.lf_lexer.specs.declared.tokens.Lexeme.TheVariants as lexeme
@@ -68,7 +68,7 @@ before : (token : Token) (tokens : List Token) → 1 ≤ kind (Some token) → E
 before token [] above e = absurd e
 before token (t ∷ ts) above e = (above, e)
 
-ends_once : {spot : Spot} {depth : ℕ} {tokens : List Token} → Laid spot depth tokens → EndsOnce tokens
+pub ends_once : {spot : Spot} {depth : ℕ} {tokens : List Token} → Laid spot depth tokens → EndsOnce tokens
 ends_once (ends between is) = ap lexeme_kind is
 ends_once (opens {depth} {token} {tokens} is more) = let k : lexeme_kind token.lexeme ≡ 2 = ap lexeme_kind is in before token tokens (omega arith) (ends_once more)
 ends_once (closes {spot} {depth} {token} {tokens} between is more) = let k : lexeme_kind token.lexeme ≡ 3 = ap lexeme_kind is in before token tokens (omega arith) (ends_once more)

@@ -1,7 +1,8 @@
 //! What was proved of trees and refusals, whatever reads them.
 
-ghost use Rattle.std.specs.Prelude.{List, ℕ};
+ghost use Rattle.std.specs.Prelude.{◌⊎◌, ℕ, List};
 ghost use Rattle.lf_base.specs.declared.ids.TextId.{TextId};
+ghost use Rattle.lf_base.specs.declared.refusals.Refusal.{Refusal};
 ghost use Rattle.lf_parser.specs.Laws.{ElifAlone, FieldsByText, OneRefusal, OneTree, TreeOrRefusal};
 ghost use Rattle.lf_base.specs.Texts.{Text};
 ghost use Rattle.lf_lexer.specs.declared.tokens.Token.{Token};
@@ -9,7 +10,7 @@ ghost use Rattle.lf_lexer.specs.LineOrder.{OnLines};
 ghost use Rattle.lf_lexer.specs.Order.{InOrder};
 ghost use Rattle.lf_lexer.specs.Reading.{AreSpelled};
 ghost use Rattle.lf_parser.specs.Plain.{PlainExpr, PlainTree};
-ghost use Rattle.lf_parser.specs.Refusals.{Derives, IsTree, Readable};
+ghost use Rattle.lf_parser.specs.Refusals.{Derives, EndsOnce, IsRefusal, IsTree, Readable};
 ghost use Rattle.lf_parser.specs.TreeLines.{LinesInOrder};
 ghost use Rattle.lf_parser.specs.TreeNames.{NamesInOrder};
 
@@ -20,6 +21,11 @@ pub fn one_answer()
     ensures one_tree { OneTree }
     ensures tree_or_refusal { TreeOrRefusal }
     ensures one_refusal { OneRefusal }
+{}
+
+/// Tokens whose last one alone is the end make a tree within the limits, or have a refusal.
+pub fn trees_or_refusals()
+    ensures { (tokens : List Token) → EndsOnce tokens → ((tree : PlainTree) × IsTree tokens tree) ⊎ ((refusal : Refusal) × IsRefusal tokens refusal) }
 {}
 
 /// `x.f` and `x["f"]` are one form, and an `elif` is an `if` that stands alone in
