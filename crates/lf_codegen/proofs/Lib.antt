@@ -1,5 +1,6 @@
 pub mod Arguments
 pub mod Counted
+pub mod Decided
 pub mod First
 pub mod FunctionTables
 pub mod Judging

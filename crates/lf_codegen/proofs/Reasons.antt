@@ -1,12 +1,30 @@
--- A script that the names refuse.
-use Rattle.std.proofs.Common.{ℕ, List, inr}
+-- What the reader answers, by what its parts answer.
+use Rattle.std.proofs.Common.{ℕ, List, Ok, Err, IfOk, IfErr, inr}
+use Rattle.std.specs.declared.result.Result.{Result}
 use Rattle.lf_base.specs.Texts.{Text}
+use Rattle.lf_base.specs.declared.refusals.Refusal.{Refusal}
 use Rattle.lf_base.specs.declared.refusals.ReadFail.{ReadFail}
 use Rattle.lf_base.specs.declared.refusals.ReadFail.TheVariants as fail
-use Rattle.lf_parser.specs.Plain.{PlainTree}
+use Rattle.lf_parser.specs.Plain.{PlainTree, plain_tree}
+use Rattle.lf_codegen.specs.declared.script.Script.{Script}
+use Rattle.lf_codegen.specs.Exactly.{Gives, Refuses}
+use Rattle.lf_codegen.proofs.OneAnswer.{read_texts, read_tree, refused_once, read_not_refused}
 use Rattle.lf_codegen.specs.NameRefusals as names
-use Rattle.lf_codegen.specs.Reading.{IsParsed, FailsAs}
+use Rattle.lf_codegen.specs.Reading.{IsParsed, IsRead, IsFirstRefusal, FailsAs}
 
 pub names_fail : (bytes : List ℕ) (texts : List Text) (tree : PlainTree) (why : ReadFail) → IsParsed bytes texts tree → names.FailsAs texts tree why → FailsAs bytes why
 names_fail bytes texts tree (fail.Refused refusal) parsed refused = inr (inr (record { texts = texts; tree = tree; parsed = parsed; refused = refused }))
 names_fail bytes texts tree fail.OutOfMemory parsed refused = refused
+
+-- a known script, and a known refusal, is the one that is answered
+pub gives : (bytes : List ℕ) (result : Result Script ReadFail) → IfOk result (λ script. IsRead bytes script.texts (plain_tree script.resolved)) → IfErr result (FailsAs bytes)
+    → (texts : List Text) (tree : PlainTree) → IsRead bytes texts tree → Gives result texts tree
+gives bytes (Ok script) read refused texts tree is = (read_texts bytes script.texts texts (plain_tree script.resolved) tree read is, read_tree bytes script.texts texts (plain_tree script.resolved) tree read is)
+gives bytes (Err (fail.Refused r)) read refused texts tree is = read_not_refused bytes texts tree r is refused
+gives bytes (Err fail.OutOfMemory) read refused texts tree is = tt
+
+pub refuses : (bytes : List ℕ) (result : Result Script ReadFail) → IfOk result (λ script. IsRead bytes script.texts (plain_tree script.resolved)) → IfErr result (FailsAs bytes)
+    → (refusal : Refusal) → IsFirstRefusal bytes refusal → Refuses result refusal
+refuses bytes (Ok script) read refused refusal is = read_not_refused bytes script.texts (plain_tree script.resolved) refusal read is
+refuses bytes (Err (fail.Refused r)) read refused refusal is = refused_once bytes r refusal refused is
+refuses bytes (Err fail.OutOfMemory) read refused refusal is = tt

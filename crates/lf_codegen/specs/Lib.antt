@@ -3,6 +3,7 @@ pub mod Frames
 pub mod Callees
 pub mod NameRefusals
 pub mod Reading
+pub mod Exactly
 pub mod Earliest
 pub mod NameSets
 pub mod Standing

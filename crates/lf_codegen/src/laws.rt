@@ -1,6 +1,6 @@
 //! What was proved of scripts, their names and their refusals, whatever reads them.
 
-ghost use Rattle.std.specs.Prelude.{◌≡◌, ℕ, ltb, List, map};
+ghost use Rattle.std.specs.Prelude.{◌≡◌, ◌⊎◌, ℕ, ltb, List, map};
 ghost use Rattle.lf_base.specs.declared.refusals.Refusal.{Refusal};
 ghost use Rattle.lf_base.specs.Sets.{Member};
 ghost use Rattle.lf_base.specs.Texts.{Text};
@@ -9,6 +9,11 @@ ghost use Rattle.lf_parser.specs.Risings.{Rising};
 ghost use Rattle.lf_parser.specs.TreeNames.{stands_before};
 ghost use Rattle.lf_codegen.specs.Frames.{PlainFrame, frames, line_of, variables, when_frames};
 ghost use Rattle.lf_codegen.specs.Reading.{IsFirstRefusal, IsParsed, IsRead};
+
+/// Each list of bytes spells a script whose names and calls are right, or has a first refusal.
+pub fn scripts_are_read_or_refused()
+    ensures { (bytes : List ℕ) → ((texts : List Text) × ((tree : PlainTree) × IsRead bytes texts tree)) ⊎ ((refusal : Refusal) × IsFirstRefusal bytes refusal) }
+{}
 
 /// Some bytes spell one list of texts and one tree at most, and have one first refusal at
 /// most; and never both, where the tree's names and calls are right. So `read` answers a

@@ -1,6 +1,9 @@
-ghost use Rattle.std.specs.Prelude.{◌≤◌, length, IfErr, IfOk};
-ghost use Rattle.lf_parser.specs.Plain.{plain_tree};
-ghost use Rattle.lf_codegen.specs.Reading.{FailsAs, IsRead};
+ghost use Rattle.std.specs.Prelude.{◌≤◌, length, IfErr, IfOk, List};
+ghost use Rattle.lf_base.specs.declared.refusals.Refusal.{Refusal};
+ghost use Rattle.lf_base.specs.Texts.{Text};
+ghost use Rattle.lf_parser.specs.Plain.{PlainTree, plain_tree};
+ghost use Rattle.lf_codegen.specs.Exactly.{Gives, Refuses};
+ghost use Rattle.lf_codegen.specs.Reading.{FailsAs, IsFirstRefusal, IsRead};
 
 use crate::resolved::Resolved;
 use crate::resolving::resolve;
@@ -16,13 +19,8 @@ pub struct Script {
     pub texts: Texts,
 }
 
-/// Reads a script from its bytes.
-///
-/// It answers the resolved tree and the texts that the bytes spell exactly where they spell one, and
-/// else their first refusal: of the bytes and tokens (`docs/TOKENS.md`), else of the grammar
-/// (`docs/GRAMMAR.md`), else of the names (`docs/NAMES.md`). `OutOfMemory` comes only where
-/// memory runs out.
-pub fn read(alloc: Global, bytes: &[u8]) -> Result<Script, ReadFail>
+// The script that the bytes spell, or their first refusal.
+fn read_script(alloc: Global, bytes: &[u8]) -> Result<Script, ReadFail>
     requires { length bytes.now ≤ MOST_SCRIPT_BYTES }
     ensures read { IfOk result (λ script. IsRead bytes.now script.texts (plain_tree script.resolved)) }
     ensures refused { IfErr result (FailsAs bytes.now) }
@@ -35,4 +33,20 @@ pub fn read(alloc: Global, bytes: &[u8]) -> Result<Script, ReadFail>
         resolved,
         texts: lexed.texts,
     })
+}
+
+/// Reads a script from its bytes.
+///
+/// It answers the resolved tree and the texts that the bytes spell exactly where they spell one, and
+/// else their first refusal: of the bytes and tokens (`docs/TOKENS.md`), else of the grammar
+/// (`docs/GRAMMAR.md`), else of the names (`docs/NAMES.md`). `OutOfMemory` comes only where
+/// memory runs out.
+pub fn read(alloc: Global, bytes: &[u8]) -> Result<Script, ReadFail>
+    requires { length bytes.now ≤ MOST_SCRIPT_BYTES }
+    ensures read { IfOk result (λ script. IsRead bytes.now script.texts (plain_tree script.resolved)) }
+    ensures refused { IfErr result (FailsAs bytes.now) }
+    ensures wherever_read { (texts : List Text) (tree : PlainTree) → IsRead bytes.now texts tree → Gives result texts tree }
+    ensures wherever_refused { (refusal : Refusal) → IsFirstRefusal bytes.now refusal → Refuses result refusal }
+{
+    read_script(alloc, bytes)
 }
