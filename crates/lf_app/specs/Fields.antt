@@ -4,7 +4,7 @@ use Rattle.std.specs.declared.hash.FoldHasher.{FoldHasher}
 use Rattle.std.specs.declared.hash.BuildHasherDefault.{BuildHasherDefault}
 use Rattle.std.specs.HashMap.{HashMap, get}
 use Rattle.lf_base.specs.declared.ids.TextId.{TextId}
-use Rattle.lf_app.specs.FirstForm.{same_text}
+use Rattle.lf_base.specs.Texts.{same_text}
 
 -- the value of a field in a map
 abbrev pub value_at : HashMap TextId ℕ (BuildHasherDefault FoldHasher) → TextId → Option ℕ

@@ -1,8 +1,9 @@
 -- The scripts that run today, by a walk over the statements of a script's tree.
-use Rattle.std.specs.Prelude.{ℕ, ◌+◌, min, ℤ, pos, Bool, ◌==◌, List, [], ◌∷◌, ◌++◌, codes, nat_le, Option, Some, None, if◌then◌else◌}
+use Rattle.std.specs.Prelude.{ℕ, ◌+◌, min, ℤ, pos, List, [], ◌∷◌, ◌++◌, codes, nat_le, Option, Some, None, if◌then◌else◌}
+use Rattle.std.specs.Option.{option_or}
 use Rattle.lf_base.specs.declared.ids.TextId.{TextId}
 use Rattle.lf_base.specs.declared.values.Op.TheVariants.{Add}
-use Rattle.lf_base.specs.Texts.{fixed_texts, place_of}
+use Rattle.lf_base.specs.Texts.{fixed_texts, place_of, same_text}
 use Rattle.lf_parser.specs.Plain.{PlainExpr, PlainArgs, PlainStmt, PlainBlock, PlainFunction, PlainTree, no_args, arg, no_stmts, stmt}
 use Rattle.lf_parser.specs.Plain.{Number, Text, Object, Var, Field, Binary, Call}
 use Rattle.lf_parser.specs.Plain.{Assign, Store, Drop, Return, Pass, Eval, If, While, When}
@@ -11,15 +12,6 @@ use Rattle.lf_parser.specs.Plain.{Assign, Store, Drop, Return, Pass, Eval, If, W
 abbrev pub and_then : {A B : Type 0} → Option A → (A → Option B) → Option B
 and_then None next = None
 and_then (Some a) next = next a
-
--- the second finding, if there is no first one
-abbrev pub or_else : {A : Type 0} → Option A → Option A → Option A
-or_else None second = second
-or_else (Some a) second = Some a
-
--- two texts of a script are one where their places are
-abbrev pub same_text : TextId → TextId → Bool
-same_text a b = a.index == b.index
 
 -- the place of `print` among the texts of each script
 abbrev pub print_id : TextId
@@ -116,7 +108,7 @@ value_of (written ∷ more) field = if same_text written.0 field then Some writt
 abbrev pub after_said : State → Option TextId → PlainStmt → Option State
 after_said state None said = and_then (made_object said) (λ object. Some (with_object state object))
 after_said state (Some object) said =
-    or_else (and_then (stored_field object (value_of state.fields) said) (λ written. Some (with_field state written)))
+    option_or (and_then (stored_field object (value_of state.fields) said) (λ written. Some (with_field state written)))
     (and_then (printed_value object (value_of state.fields) said) (λ number. Some (with_printed state number)))
 
 abbrev pub after_stmt : State → PlainStmt → Option State

@@ -1,5 +1,6 @@
 -- Reads, writes and takes of any target: what they answer, and what they leave.
 use Rattle.std.specs.Prelude.{None, Option, Some, ◌++◌}
+use Rattle.std.specs.Option.{option_or}
 use Rattle.lf_base.specs.declared.faults.Fault.{Fault}
 use Rattle.lf_base.specs.declared.faults.Fault.TheVariants.{NoField}
 use Rattle.lf_base.specs.declared.ids.ObjId.{ObjId}
@@ -10,7 +11,7 @@ use Rattle.lf_base.specs.ContentResult.{content_at, content_refusal, content_res
 use Rattle.lf_base.specs.Kept.{kept}
 use Rattle.lf_base.specs.Names.{key_of}
 use Rattle.lf_base.specs.Owners.{row_at}
-use Rattle.lf_base.specs.PlainChecks.{cown_refusal, first_of_two, plain_refusal}
+use Rattle.lf_base.specs.PlainChecks.{cown_refusal, plain_refusal}
 use Rattle.lf_base.specs.PlainState.{State}
 use Rattle.lf_base.specs.TakeResult.{row_field, take_refusal, take_result}
 use Rattle.lf_base.specs.WriteResult.{write_refusal, write_result}
@@ -33,7 +34,7 @@ read_fault s _ _ = None
 
 -- what a read is refused for
 abbrev pub read_refusal : State → Value → Value → Option Fault
-read_refusal s target key = first_of_two (plain_refusal target key) (read_fault s target (key_of key))
+read_refusal s target key = option_or (plain_refusal target key) (read_fault s target (key_of key))
 
 -- the value that a read gives that isn't refused
 abbrev pub read_value : State → Value → Option Key → Option Value
@@ -44,12 +45,12 @@ read_value s _ _ = None
 -- what a write is refused for after the plain checks
 abbrev pub store_fault : State → Value → Option Key → Value → Option Fault
 store_fault s (Obj o) (Some k) v = write_refusal s o k v
-store_fault s (Cown c) (Some k) v = first_of_two (cown_refusal s c k) (content_refusal s c v)
+store_fault s (Cown c) (Some k) v = option_or (cown_refusal s c k) (content_refusal s c v)
 store_fault s _ _ v = None
 
 -- what a write is refused for
 abbrev pub store_refusal : State → Value → Value → Value → Option Fault
-store_refusal s target key v = first_of_two (plain_refusal target key) (store_fault s target (key_of key) v)
+store_refusal s target key v = option_or (plain_refusal target key) (store_fault s target (key_of key) v)
 
 -- what a write gives that isn't refused
 abbrev pub store_result : State → Value → Option Key → Value → State
@@ -65,7 +66,7 @@ remove_fault s _ _ = None
 
 -- what a take is refused for
 abbrev pub remove_refusal : State → Value → Value → Option Fault
-remove_refusal s target key = first_of_two (plain_refusal target key) (remove_fault s target (key_of key))
+remove_refusal s target key = option_or (plain_refusal target key) (remove_fault s target (key_of key))
 
 -- what a take leaves that isn't refused: the object without the field, the cown with the content None
 abbrev pub remove_result : State → Value → Option Key → State

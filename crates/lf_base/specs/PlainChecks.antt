@@ -1,5 +1,6 @@
 -- What comes first in a read, a write and a take of any target.
 use Rattle.std.specs.Prelude.{Bool, None, Option, Some, codes, cond, eqb, false, ℕ}
+use Rattle.std.specs.Option.{option_or}
 use Rattle.lf_base.specs.declared.faults.Fault.{Fault}
 use Rattle.lf_base.specs.declared.faults.Fault.TheVariants.{Kind, NoField, NotAcquired, NotObject}
 use Rattle.lf_base.specs.declared.ids.CownId.{CownId}
@@ -11,11 +12,6 @@ use Rattle.lf_base.specs.ContentResult.{has_cown}
 use Rattle.lf_base.specs.Names.{key_of}
 use Rattle.lf_base.specs.PlainState.{State}
 use Rattle.lf_base.specs.Texts.{fixed_texts, place_of}
-
--- the first of two refusals
-abbrev pub first_of_two : Option Fault → Option Fault → Option Fault
-first_of_two (Some f) g = Some f
-first_of_two None g = g
 
 -- the target must be an object or a cown
 abbrev pub target_refusal : Value → Option Fault
@@ -30,7 +26,7 @@ key_refusal (Some k) = None
 
 -- the checks that come first: of the target, and then of the key
 abbrev pub plain_refusal : Value → Value → Option Fault
-plain_refusal target key = first_of_two (target_refusal target) (key_refusal (key_of key))
+plain_refusal target key = option_or (target_refusal target) (key_refusal (key_of key))
 
 -- the place of the text `value` among the texts of every script
 abbrev pub content_place : ℕ

@@ -1,7 +1,8 @@
 -- The texts of a script: a list of byte lists without repeats, which begins with fixed ones.
-use Rattle.std.specs.Prelude.{◌≡◌, ◌<◌, ℕ, List, [], ◌∷◌, ◌++◌, length, codes, fold, if◌then◌else◌, slice_get, unwrap_or}
+use Rattle.std.specs.Prelude.{◌≡◌, ◌<◌, ℕ, Bool, ◌==◌, List, [], ◌∷◌, ◌++◌, length, codes, fold, if◌then◌else◌, slice_get, unwrap_or}
 use Rattle.std.specs.List.{list_any, position_or_len}
 use Rattle.std.specs.Str.{bytes_eq}
+use Rattle.lf_base.specs.declared.ids.TextId.{TextId}
 
 abbrev pub Text : Type 0
 Text = List ℕ
@@ -17,6 +18,10 @@ place_of texts text = position_or_len (bytes_eq text) texts
 -- the text at a place, and the empty text past the end
 abbrev pub text_at : List Text → ℕ → Text
 text_at texts place = unwrap_or (slice_get texts place) []
+
+-- two places are one text's
+abbrev pub same_text : TextId → TextId → Bool
+same_text a b = a.index == b.index
 
 -- the texts that come first in each script: the one key of a cown, the answers of `owner`, and the built-in names
 abbrev pub fixed_texts : List Text

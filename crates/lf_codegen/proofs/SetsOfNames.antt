@@ -4,7 +4,8 @@ use Rattle.std.proofs.lemmas.Bool.{eq-eqb, eqb-true}
 use Rattle.std.proofs.lemmas.List.Folds.{list_any-append}
 use Rattle.lf_base.specs.declared.ids.TextId.{TextId}
 use Rattle.lf_parser.specs.declared.name.Name.{Name}
-use Rattle.lf_codegen.specs.Frames.{same_id, is_among, with_name}
+use Rattle.lf_base.specs.Texts.{same_text}
+use Rattle.lf_codegen.specs.Frames.{is_among, with_name}
 
 same_number : (a b : ℕ) → (a == b) ≡ (b == a)
 same_number a b = elim (a == b) as (λ x. (a == b) ≡ x → x ≡ (b == a)) [
@@ -15,8 +16,8 @@ same_number a b = elim (a == b) as (λ x. (a == b) ≡ x → x ≡ (b == a)) [
   ] refl
 ] refl
 
-pub same_id_sym : (a b : TextId) → same_id a b ≡ same_id b a
-same_id_sym a b = same_number a.index b.index
+pub same_text_sym : (a b : TextId) → same_text a b ≡ same_text b a
+same_text_sym a b = same_number a.index b.index
 
 or_false : (a : Bool) → (a || (false || false)) ≡ a
 or_false true = refl
@@ -33,14 +34,14 @@ or_one false true = refl
 or_one false false = refl
 
 -- one name more
-pub among_more : (id : TextId) (names : List Name) (x : Name) → cond (same_id x.id id) true (is_among id names) ≡ is_among id (names ++ x ∷ [])
-among_more id names x = or_one (same_id x.id id) (is_among id names) ∙ ap (λ t. is_among id names || (t || false)) (same_id_sym x.id id)
-    ∙ sym (list_any-append (λ (y : Name). same_id id y.id) names (x ∷ []))
+pub among_more : (id : TextId) (names : List Name) (x : Name) → cond (same_text x.id id) true (is_among id names) ≡ is_among id (names ++ x ∷ [])
+among_more id names x = or_one (same_text x.id id) (is_among id names) ∙ ap (λ t. is_among id names || (t || false)) (same_text_sym x.id id)
+    ∙ sym (list_any-append (λ (y : Name). same_text id y.id) names (x ∷ []))
 
 -- a name that is there already
 pub among_again : (id : TextId) (names : List Name) (x : Name) → is_among x.id names ≡ true → is_among id (names ++ x ∷ []) ≡ is_among id names
-among_again id names x there = list_any-append (λ (y : Name). same_id id y.id) names (x ∷ [])
-    ∙ elim (same_id id x.id) as (λ b. same_id id x.id ≡ b → (is_among id names || (b || false)) ≡ is_among id names) [
+among_again id names x there = list_any-append (λ (y : Name). same_text id y.id) names (x ∷ [])
+    ∙ elim (same_text id x.id) as (λ b. same_text id x.id ≡ b → (is_among id names || (b || false)) ≡ is_among id names) [
       | true ↦ λ h. let t : is_among id names ≡ true = ap (λ k. is_among (record { index = k }) names) (eqb-true id.index x.id.index h) ∙ there in
           ap (λ b. b || true) t ∙ sym t
       | false ↦ λ h. or_false (is_among id names)

@@ -2,10 +2,9 @@
 use Rattle.std.specs.Prelude.{ℕ, true, false, List, [], ◌∷◌, length, codes, Option, Some, None, if◌then◌else◌}
 use Rattle.std.specs.Str.{bytes_eq}
 use Rattle.lf_base.specs.declared.ids.TextId.{TextId}
-use Rattle.lf_base.specs.Texts.{Text, text_at}
+use Rattle.lf_base.specs.Texts.{Text, text_at, same_text}
 use Rattle.lf_parser.specs.Plain.{PlainFunction}
 use Rattle.lf_codegen.specs.declared.callee.Callee.{Callee}
-use Rattle.lf_codegen.specs.Frames.{same_id}
 
 -- a callee that takes from least to most arguments
 abbrev pub takes : ℕ → ℕ → Callee
@@ -50,7 +49,7 @@ built_in text = named_in built_ins text
 -- the number of parameters of the first function of a name
 abbrev pub params_of : List PlainFunction → TextId → Option ℕ
 params_of [] id = None
-params_of (f ∷ fs) id = if same_id id f.name.id then Some (length f.params) else params_of fs id
+params_of (f ∷ fs) id = if same_text id f.name.id then Some (length f.params) else params_of fs id
 
 abbrev pub exactly : Option ℕ → Option Callee
 exactly None = None

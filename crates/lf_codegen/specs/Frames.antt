@@ -1,7 +1,8 @@
 -- The frames of a script: main, its functions, and the bodies of its `when`s; and the variables of each.
-use Rattle.std.specs.Prelude.{ℕ, ◌==◌, ltb, Bool, List, [], ◌∷◌, ◌++◌, map, flat_map, fold, if◌then◌else◌}
+use Rattle.std.specs.Prelude.{ℕ, ltb, Bool, List, [], ◌∷◌, ◌++◌, map, flat_map, fold, if◌then◌else◌}
 use Rattle.std.specs.List.{list_any}
 use Rattle.lf_base.specs.declared.ids.TextId.{TextId}
+use Rattle.lf_base.specs.Texts.{same_text}
 use Rattle.lf_parser.specs.declared.name.Name.{Name}
 use Rattle.lf_parser.specs.Plain.{PlainStmt, PlainBlock, PlainFunction, PlainTree, no_stmts, stmt}
 use Rattle.lf_parser.specs.Plain as plain
@@ -63,12 +64,9 @@ function_frame f = record { line = 0; own = f.params; body = f.body }
 abbrev pub frames : PlainTree → List PlainFrame
 frames tree = main_frame tree ∷ (map function_frame tree.functions ++ when_frames tree)
 
-abbrev pub same_id : TextId → TextId → Bool
-same_id a b = a.index == b.index
-
 -- one of the names is this one
 abbrev pub is_among : TextId → List Name → Bool
-is_among id names = list_any (λ x. same_id id x.id) names
+is_among id names = list_any (λ x. same_text id x.id) names
 
 -- the names that a mention binds, and those of variables that it uses or binds
 abbrev pub binds : Mention → List Name

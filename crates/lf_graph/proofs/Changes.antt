@@ -1,7 +1,7 @@
 -- What a change of the rows makes of each owner's rows, of names and of what is found.
 use Rattle.std.proofs.Common.{Bool, List, None, Option, Some, [], ap, cond, false, map, not, refl, subst, sym, true, ◌++◌, ◌∙◌, ◌∷◌, ◌≡◌}
 use Rattle.std.specs.List.{filter}
-use Rattle.std.specs.Option.{option_map}
+use Rattle.std.specs.Option.{option_map, option_or}
 use Rattle.lf_base.specs.declared.ids.ObjId.{ObjId}
 use Rattle.lf_base.specs.declared.values.Owner.{Owner}
 use Rattle.lf_base.specs.Names.{same_name, same_owner}
@@ -81,15 +81,10 @@ found_changed o f keeps (c ∷ cs) q =
       | false ↦ λ e. found_changed o f keeps cs q
     ] refl)
 
--- the first of two, where there is one
-abbrev pub or_else : Option CountedRow → Option CountedRow → Option CountedRow
-or_else None t = t
-or_else (Some c) t = Some c
-
-pub found_append : (xs ys : List CountedRow) (q : ObjId) → row_named (xs ++ ys) q ≡ or_else (row_named xs q) (row_named ys q)
+pub found_append : (xs ys : List CountedRow) (q : ObjId) → row_named (xs ++ ys) q ≡ option_or (row_named xs q) (row_named ys q)
 found_append [] ys q = refl
 found_append (x ∷ xs) ys q =
-    elim (is_named q x) as (λ b. cond b (Some x) (row_named (xs ++ ys) q) ≡ or_else (cond b (Some x) (row_named xs q)) (row_named ys q)) [
+    elim (is_named q x) as (λ b. cond b (Some x) (row_named (xs ++ ys) q) ≡ option_or (cond b (Some x) (row_named xs q)) (row_named ys q)) [
       | true ↦ refl
       | false ↦ found_append xs ys q
     ]
@@ -105,11 +100,11 @@ pub found_with_row : (rows : List CountedRow) (o : ObjId) (w : Owner) → IsNewN
     → row_named (with_row rows o w) q ≡ cond (same_name q o) (Some (new_row o w)) (row_named rows q)
 found_with_row rows o w new q =
     found_append rows (new_row o w ∷ []) q
-    ∙ (elim (same_name q o) as (λ b. same_name q o ≡ b → or_else (row_named rows q) (cond (same_name o q) (Some (new_row o w)) None) ≡ cond b (Some (new_row o w)) (row_named rows q)) [
-      | true ↦ λ e. ap (λ t. or_else t (cond (same_name o q) (Some (new_row o w)) None)) (ap (row_named rows) (same_name_is q o e) ∙ new)
+    ∙ (elim (same_name q o) as (λ b. same_name q o ≡ b → option_or (row_named rows q) (cond (same_name o q) (Some (new_row o w)) None) ≡ cond b (Some (new_row o w)) (row_named rows q)) [
+      | true ↦ λ e. ap (λ t. option_or t (cond (same_name o q) (Some (new_row o w)) None)) (ap (row_named rows) (same_name_is q o e) ∙ new)
           ∙ ap (λ b. cond b (Some (new_row o w)) None) (name_flips o q ∙ e)
-      | false ↦ λ e. ap (λ b. or_else (row_named rows q) (cond b (Some (new_row o w)) None)) (name_flips o q ∙ e)
-          ∙ (elim (row_named rows q) as (λ t. or_else t None ≡ t) [ None ↦ refl | Some c ↦ refl ])
+      | false ↦ λ e. ap (λ b. option_or (row_named rows q) (cond b (Some (new_row o w)) None)) (name_flips o q ∙ e)
+          ∙ (elim (row_named rows q) as (λ t. option_or t None ≡ t) [ None ↦ refl | Some c ↦ refl ])
     ] refl)
 
 pub found_without_row : (rows : List CountedRow) (o q : ObjId) → row_named (without_row rows o) q ≡ cond (same_name q o) None (row_named rows q)
@@ -151,10 +146,10 @@ pub found_moved_last : (rows : List CountedRow) (o : ObjId) (w : Owner) (q : Obj
     → row_named (moved_last rows o w) q ≡ cond (same_name q o) (option_map (with_owner w) (row_named rows q)) (row_named rows q)
 found_moved_last rows o w q =
     found_append (without_row rows o) (under w (row_named rows o)) q
-    ∙ ap (λ t. or_else t (row_named (under w (row_named rows o)) q)) (found_without_row rows o q)
-    ∙ (elim (same_name q o) as (λ b. same_name q o ≡ b → or_else (cond b None (row_named rows q)) (row_named (under w (row_named rows o)) q) ≡ cond b (option_map (with_owner w) (row_named rows q)) (row_named rows q)) [
+    ∙ ap (λ t. option_or t (row_named (under w (row_named rows o)) q)) (found_without_row rows o q)
+    ∙ (elim (same_name q o) as (λ b. same_name q o ≡ b → option_or (cond b None (row_named rows q)) (row_named (under w (row_named rows o)) q) ≡ cond b (option_map (with_owner w) (row_named rows q)) (row_named rows q)) [
       | true ↦ λ e. let one : o ≡ q = sym (same_name_is q o e) in
           subst (λ n. row_named (under w (row_named rows o)) n ≡ option_map (with_owner w) (row_named rows n)) one (under_itself o w (row_named rows o) (name_found rows o))
-      | false ↦ λ e. ap (or_else (row_named rows q)) (under_found o w (row_named rows o) (name_found rows o) q e)
-          ∙ (elim (row_named rows q) as (λ t. or_else t None ≡ t) [ None ↦ refl | Some c ↦ refl ])
+      | false ↦ λ e. ap (option_or (row_named rows q)) (under_found o w (row_named rows o) (name_found rows o) q e)
+          ∙ (elim (row_named rows q) as (λ t. option_or t None ≡ t) [ None ↦ refl | Some c ↦ refl ])
     ] refl)

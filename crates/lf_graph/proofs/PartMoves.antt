@@ -1,6 +1,6 @@
 -- Rows that go out of a store and come back into it, one after the other.
 use Rattle.std.proofs.Common.{List, None, Option, Some, [], ap, arith, cond, false, is_some, map, not, refl, slice_get, subst, sym, take, true, ℕ, suc, zero, ◌+◌, ◌≤◌, ◌||◌, ◌++◌, ◌∙◌, ◌∷◌, ◌≡◌}
-use Rattle.std.specs.Option.{IfSome, IsSome}
+use Rattle.std.specs.Option.{IfSome, IsSome, option_or}
 use Rattle.lf_base.specs.declared.ids.ObjId.{ObjId}
 use Rattle.lf_base.specs.declared.values.Owner.{Owner}
 use Rattle.lf_base.specs.declared.values.Owner.TheVariants.{In}
@@ -20,7 +20,7 @@ use Rattle.lf_graph.specs.Parts.{AllNew}
 use Rattle.lf_graph.specs.RowChanges.{without_row, without_rows}
 use Rattle.lf_graph.specs.StoredRows.{CountedRow, HasRow, IsNewName, SameByOwner, is_named, is_under, row_named, rows_of, rows_outside}
 use Rattle.lf_graph.proofs.ChainLemmas.{or_true, other_owner}
-use Rattle.lf_graph.proofs.Changes.{found_append, or_else, same_append, same_filter}
+use Rattle.lf_graph.proofs.Changes.{found_append, same_append, same_filter}
 use Rattle.lf_graph.proofs.FieldCopies.{take_more}
 use Rattle.lf_graph.proofs.FlatFound.{shown}
 use Rattle.lf_graph.proofs.FlatView.{owner_flips, row_names}
@@ -108,8 +108,8 @@ module _ (t : Chains) (cells : Cells) (flat : IsFlat t cells) (v : StoreView) (i
       ] refl)
 
 -- ---- in
-both_none : (t u : Option CountedRow) → t ≡ None → u ≡ None → or_else t u ≡ None
-both_none t u e f = ap (λ x. or_else x u) e ∙ f
+both_none : (t u : Option CountedRow) → t ≡ None → u ≡ None → option_or t u ≡ None
+both_none t u e f = ap (λ x. option_or x u) e ∙ f
 
 -- the number of cells, where there is one, is enough room
 pub enough_room : (cells : Option ℕ) (n room : ℕ) → IfSome cells (λ c. c ≡ n) → IfSome cells (λ c. c ≤ room) → IsSome cells → n ≤ room

@@ -1,7 +1,7 @@
 use Rattle.std.proofs.Common.{◌∙◌, ap, sym, is_some, Some, cond, length}
 use Rattle.std.specs.HashMap.{get}
 use Rattle.lf_parser.specs.Plain.{plain_function}
-use Rattle.lf_codegen.specs.Frames.{same_id}
+use Rattle.lf_base.specs.Texts.{same_text}
 use Rattle.lf_codegen.proofs.FunctionTables.{added, kept}
 use Rattle.lf_codegen.proofs.callees.Callees.add.Goals as goal
 
@@ -11,8 +11,8 @@ returns-in_ok-insert c texts fs knows =
     record {
       texts_are = knows.texts_are;
       params_are = λ id. c.in_ok-insert.ensures.updates.0 id
-          ∙ ap (λ n. cond (same_id f.name.id id) (Some n) (get same_id c.args.self.now.params id)) c.len.ensures
-          ∙ ap (cond (same_id f.name.id id) (Some (length f.params))) (knows.params_are id)
+          ∙ ap (λ n. cond (same_text f.name.id id) (Some n) (get same_text c.args.self.now.params id)) c.len.ensures
+          ∙ ap (cond (same_text f.name.id id) (Some (length f.params))) (knows.params_are id)
           ∙ added fs f id (ap is_some (sym (knows.params_are f.name.id)) ∙ sym c.if-not-contains_key.ensures);
     }
 

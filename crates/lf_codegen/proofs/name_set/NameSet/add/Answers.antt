@@ -1,8 +1,8 @@
 use Rattle.std.proofs.Common.{◌∙◌, ap, true, cond}
-use Rattle.lf_codegen.specs.Frames.{same_id}
+use Rattle.lf_base.specs.Texts.{same_text}
 use Rattle.lf_codegen.proofs.SetsOfNames.{among_more}
 use Rattle.lf_codegen.proofs.name_set.NameSet.add.Goals as goal
 
 pub returns-clause-has : goal.returns-clause-has
 returns-clause-has c names has id =
-    c.in_ok-insert.ensures.updates.0 id ∙ ap (cond (same_id c.args.name.id id) true) (has id) ∙ among_more id names c.args.name
+    c.in_ok-insert.ensures.updates.0 id ∙ ap (cond (same_text c.args.name.id id) true) (has id) ∙ among_more id names c.args.name
