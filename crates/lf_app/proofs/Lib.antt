@@ -1,4 +1,5 @@
 pub mod Arguments
 pub mod Dues
 pub mod Judging
+pub mod OneVerdict
 pub mod Walking

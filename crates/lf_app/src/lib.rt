@@ -4,11 +4,12 @@
 //! It stands on `lf_base`, `lf_codegen`, `lf_outside` and `lf_parser`. Its promise is
 //! the clause of [`tool`] and [`top`]: what each status says, which is that the sink
 //! got the text that is due for the script that the source gave, and the report its
-//! journal.
+//! journal. `laws` promises that each script has one such text and journal.
 #![tactic(auto)]
 
 mod commands;
 mod forms;
+pub mod laws;
 mod outcomes;
 mod program;
 mod reports;
