@@ -1,21 +1,15 @@
 -- Lists that links spell.
 use Rattle.std.proofs.Common.{◌≡◌, ℕ, zero, suc, ◌+◌, ◌≤◌, Bool, true, false, not, ◌||◌, cond, List, [], ◌∷◌, ◌++◌, length, Option, Some, None, refl, ap, sym, ◌∙◌, arith, subst}
+use Rattle.std.proofs.Math.Bool.{or-false}
 use Rattle.std.specs.Bool.{Decides}
 use Rattle.std.specs.List.{slice_get}
 use Rattle.std.specs.Option.{option_map}
 use Rattle.lf_base.specs.declared.links.Link.{Link}
 use Rattle.lf_base.specs.Links.{link, head_or, last_or, Spells, next_of, next_from, walk, to_next, to_prev, Lacks, LacksAt, Differ, relinked, unlinked}
 use Rattle.lf_base.specs.Links.{has, without, after, IsList, front_with, or_else, front_without, back_without}
+use Rattle.lf_base.proofs.Members.{or_true}
 
-or_false : (b : Bool) → (b || false) ≡ b
-or_false true = refl
-or_false false = refl
-
-or_true : (b : Bool) → (b || true) ≡ true
-or_true true = refl
-or_true false = refl
-
-or_none : (a b : Bool) → (a || b) ≡ false → (a ≡ false) × (b ≡ false)
+pub or_none : (a b : Bool) → (a || b) ≡ false → (a ≡ false) × (b ≡ false)
 or_none true b e = cc
 or_none false b e = (refl, e)
 
@@ -42,10 +36,6 @@ module _ {N : Type 0} where
   walk-Spells zero get b (x ∷ xs) h l = absurd (omega arith)
   walk-Spells (suc n) get b [] h l = refl
   walk-Spells (suc n) get b (x ∷ xs) h l = ap (λ t. x ∷ walk n get (next_of t)) h.0 ∙ ap (λ t. x ∷ t) (walk-Spells n get (Some x) xs h.1 (omega arith))
-
-  pub Spells-same : (get new : N → Option (Link N)) (b : Option N) (xs : List N) (a : Option N) → ((q : N) → new q ≡ get q) → Spells get b xs a → Spells new b xs a
-  Spells-same get new b [] a k s = tt
-  Spells-same get new b (x ∷ xs) a k s = (k x ∙ s.0, Spells-same get new (Some x) xs a k s.1)
 
   pub first_is : (xs : List N) → slice_get xs 0 ≡ head_or xs None
   first_is [] = refl
@@ -243,20 +233,55 @@ module _ {N : Type 0} where
       | false ↦ λ _ k. let s = split x ys k in record { front = y ∷ s.front; back = s.back; is = ap (λ t. y ∷ t) s.is }
     ] refl h
 
+    Spells-among : (get new : N → Option (Link N)) (b : Option N) (xs : List N) (a : Option N) → ((q : N) → has same q xs ≡ true → new q ≡ get q) → Spells get b xs a → Spells new b xs a
+    Spells-among get new b [] a k h = tt
+    Spells-among get new b (x ∷ xs) a k h = (
+      k x (ap (λ c. c || has same x xs) (itself x)) ∙ h.0,
+      Spells-among get new (Some x) xs a (λ q e. k q (ap (λ c. same q x || c) e ∙ or_true (same q x))) h.1,
+    )
+
+    has-last : (y : N) (xs : List N) (x : N) → last_or (Some y) xs ≡ Some x → has same x (y ∷ xs) ≡ true
+    has-last y [] x e = let p : y ≡ x = cc in ap (λ u. same x u || false) p ∙ ap (λ b. b || false) (itself x)
+    has-last y (z ∷ zs) x e = ap (λ b. same x y || b) (has-last z zs x e) ∙ or_true (same x y)
+
+    has-end : (xs : List N) (x : N) → last_or None xs ≡ Some x → has same x xs ≡ true
+    has-end [] x e = cc
+    has-end (y ∷ xs) x e = has-last y xs x e
+
+    has-head : (xs : List N) (x : N) → head_or xs None ≡ Some x → has same x xs ≡ true
+    has-head [] x e = cc
+    has-head (y ∷ xs) x e = let p : y ≡ x = cc in ap (λ u. same x u || has same x xs) p ∙ ap (λ b. b || has same x xs) (itself x)
+
+    -- a node that is no member is none of the members
+    pub members_apart : (member : N → Bool) (x q : N) → member x ≡ false → member q ≡ true → same x q ≡ false
+    members_apart member x q none is = elim (same x q) as (λ b. same x q ≡ b → b ≡ false) [
+      | true ↦ λ t. let k : member x ≡ member q = ap member ((decides x q).0 t) in cc
+      | false ↦ λ _. refl
+    ] refl
+
+    -- only the link of the node `at` changes
+    pub relinked_away : (get : N → Option (Link N)) (at : Option N) (f : Link N → Link N) (q : N) → ((x : N) → at ≡ Some x → same x q ≡ false) → relinked same get at f q ≡ get q
+    relinked_away get None f q h = refl
+    relinked_away get (Some x) f q h = relinked_other get x f q (h x refl)
+
     -- without members there is no node
     pub IsList-nil : (get : N → Option (Link N)) (member : N → Bool) → ((q : N) → member q ≡ false) → IsList same get None None member []
     IsList-nil get member none = record { links = tt; differ = tt; first = refl; last = refl; members = λ q. sym (none q) }
 
-    -- a list stays where its links and members do
-    pub IsList-same : (get new : N → Option (Link N)) (front back : Option N) (member now : N → Bool) (xs : List N) → ((q : N) → new q ≡ get q) → ((q : N) → now q ≡ member q)
+    -- a list stays where the links of its nodes and its members do
+    pub IsList-kept : (get new : N → Option (Link N)) (front back : Option N) (member now : N → Bool) (xs : List N) → ((q : N) → member q ≡ true → new q ≡ get q) → ((q : N) → now q ≡ member q)
         → IsList same get front back member xs → IsList same new front back now xs
-    IsList-same get new front back member now xs links members old = record {
-      links = Spells-same get new None xs None links old.links;
+    IsList-kept get new front back member now xs links members old = record {
+      links = Spells-among get new None xs None (λ q h. links q (sym (old.members q) ∙ h)) old.links;
       differ = old.differ;
       first = old.first;
       last = old.last;
       members = λ q. old.members q ∙ sym (members q);
     }
+
+    pub IsList-same : (get new : N → Option (Link N)) (front back : Option N) (member now : N → Bool) (xs : List N) → ((q : N) → new q ≡ get q) → ((q : N) → now q ≡ member q)
+        → IsList same get front back member xs → IsList same new front back now xs
+    IsList-same get new front back member now xs links members old = IsList-kept get new front back member now xs (λ q _. links q) members old
 
     -- a node that isn't there is put last
     pub IsList-pushed : (get new : N → Option (Link N)) (front back : Option N) (member now : N → Bool) (xs : List N) (x : N) → member x ≡ false
@@ -271,7 +296,7 @@ module _ {N : Type 0} where
           last = sym (last_or_append None xs x []);
           members = λ q. has-append q xs (x ∷ []) ∙ (elim (same x q) as (λ b. same x q ≡ b → (has same q xs || (same q x || false)) ≡ cond b true (member q)) [
             | true ↦ λ t. ap (λ b. has same q xs || (b || false)) (ap (λ u. same u x) (sym ((decides x q).0 t)) ∙ itself x) ∙ or_true (has same q xs)
-            | false ↦ λ n. ap (λ b. has same q xs || (b || false)) (flipped x q n) ∙ or_false (has same q xs) ∙ old.members q
+            | false ↦ λ n. ap (λ b. has same q xs || (b || false)) (flipped x q n) ∙ or-false (has same q xs) ∙ old.members q
           ] refl) ∙ sym (members q);
         }
 
@@ -305,6 +330,23 @@ module _ {N : Type 0} where
         let was : IsList same get front back member (s.front ++ x ∷ s.back) = subst (IsList same get front back member) s.is old in
         subst (IsList same new (front_without l front) (back_without l back) now) (sym (ap (without same x) s.is ∙ without-middle x s.front s.back was.differ))
         (cut_at get new front back member now s.front s.back x l is links members was)
+
+    -- the last node is a member
+    pub IsList-end : (get : N → Option (Link N)) (front back : Option N) (member : N → Bool) (xs : List N) (x : N) → IsList same get front back member xs → back ≡ Some x → member x ≡ true
+    IsList-end get front back member xs x old e = sym (old.members x) ∙ has-end xs x (sym old.last ∙ e)
+
+    -- the neighbours of a member are members
+    pub IsList-neighbours : (get : N → Option (Link N)) (front back : Option N) (member : N → Bool) (xs : List N) (x : N) (l : Link N) → member x ≡ true → get x ≡ Some l
+        → IsList same get front back member xs → (q : N) → (l.prev ≡ Some q → member q ≡ true) × (l.next ≡ Some q → member q ≡ true)
+    IsList-neighbours get front back member xs x l there is old q =
+        let s = split x xs (old.members x ∙ there) in
+        let e : Some l ≡ Some (link (last_or None s.front) (head_or s.back None)) = sym is ∙ Spells-at get s.front s.back x (subst (λ t. Spells get None t None) s.is old.links) in
+        let before : l.prev ≡ last_or None s.front = cc in
+        let beyond : l.next ≡ head_or s.back None = cc in
+        let among : member q ≡ (has same q s.front || (same q x || has same q s.back)) = sym (old.members q) ∙ ap (has same q) s.is ∙ has-append q s.front (x ∷ s.back) in (
+          λ p. among ∙ ap (λ b. b || (same q x || has same q s.back)) (has-end s.front q (sym before ∙ p)),
+          λ n. among ∙ ap (λ b. has same q s.front || (same q x || b)) (has-head s.back q (sym beyond ∙ n)) ∙ ap (λ b. has same q s.front || b) (or_true (same q x)) ∙ or_true (has same q s.front),
+        )
 
     Spells-after : (get : N → Option (Link N)) (b : Option N) (xs : List N) (x : N) (l : Link N) → Spells get b xs None → has same x xs ≡ true → get x ≡ Some l → l.next ≡ after same x xs
     Spells-after get b [] x l s h g = cc

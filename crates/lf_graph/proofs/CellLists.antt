@@ -13,6 +13,7 @@ use Rattle.lf_base.specs.declared.values.Key.{Key}
 use Rattle.lf_base.specs.declared.values.Value.{Value}
 use Rattle.lf_base.specs.Links.{Differ, Lacks, after, has, link, next_from, relinked, to_next, to_prev, unlinked, without}
 use Rattle.lf_base.specs.Names.{same_key, same_name}
+use Rattle.lf_base.proofs.Members.{or_true}
 use Rattle.lf_base.proofs.LinkedLists.{IsList-after, IsList-after_none, IsList-pushed, IsList-same, IsList-unlinked, IsRest, IsRest-dropped, has-at, length-without, length_push, relinked-agree}
 use Rattle.lf_base.proofs.MovedRows.{same_key_is, same_key_itself}
 use Rattle.lf_base.proofs.Names.{same_name_itself}
@@ -272,10 +273,7 @@ named o (k ∷ ks) q h = elim (same_field q (field_name o k)) as (λ b. same_fie
   | true ↦ λ t _. let e = (Decides-same_field q (field_name o k)).0 t in
       record { row = sym (ap (λ (x : FieldName). x.row) e); key = ap (λ u. same_key u k || has same_key u ks) (ap (λ (x : FieldName). x.key) e) ∙ ap (λ b. b || has same_key k ks) (same_key_itself k) }
   | false ↦ λ _ r. let more = named o ks q r in record { row = more.row; key = ap (λ b. same_key q.key k || b) more.key ∙ or_true (same_key q.key k) }
-] refl h where
-  or_true : (b : Bool) → (b || true) ≡ true
-  or_true true = refl
-  or_true false = refl
+] refl h
 
 some_is : (x : Option Cell) → is_some x ≡ true → IsSome x
 some_is None e = cc

@@ -1,5 +1,5 @@
 -- A write to the links of one row, and a row in place of another.
-use Rattle.std.proofs.Common.{Bool, List, None, Option, Some, ap, cond, false, refl, sym, true, ◌∙◌, ◌≡◌}
+use Rattle.std.proofs.Common.{Bool, List, Option, Some, ap, cond, false, refl, sym, true, ◌∙◌, ◌≡◌}
 use Rattle.std.specs.Option.{option_map}
 use Rattle.lf_base.specs.declared.ids.ObjId.{ObjId}
 use Rattle.lf_base.specs.declared.links.Link.{Link}
@@ -10,8 +10,8 @@ use Rattle.lf_base.proofs.Names.{same_name_is}
 use Rattle.lf_graph.specs.declared.ends.Ends.{Ends}
 use Rattle.lf_graph.specs.declared.stored_row.Linked.{Linked}
 use Rattle.lf_graph.specs.declared.stored_row.StoredRow.{StoredRow}
-use Rattle.lf_graph.specs.Chains.{AreChains, OnlyRowAt, OnlyStoredAt, Relinks, is_of, link_at, owner_at, owner_of_head, row_at, row_of_head}
-use Rattle.lf_base.proofs.LinkedLists.{Spells-same}
+use Rattle.lf_graph.specs.Chains.{AreChains, OnlyRowAt, OnlyStoredAt, Relinks, link_at, owner_at, owner_of_head, row_at, row_of_head}
+use Rattle.lf_graph.proofs.ChainLemmas.{AreChains-kept}
 
 same_either : {X : Type 0} (b : Bool) (x : X) → cond b x x ≡ x
 same_either true x = refl
@@ -51,13 +51,7 @@ module _ (m n : ObjId → Option Linked) (e : Owner → Option Ends) (o : ObjId)
   ] refl)
 
   pub chains_replaced : (L : Owner → List ObjId) → AreChains m e L → AreChains n e L
-  chains_replaced L old w = record {
-    links = Spells-same (link_at m) (link_at n) None (L w) None links_stay (old w).links;
-    differ = (old w).differ;
-    first = (old w).first;
-    last = (old w).last;
-    members = λ q. (old w).members q ∙ ap (is_of w) (sym (owners_stay q));
-  }
+  chains_replaced L = AreChains-kept m n e e L links_stay owners_stay (λ _. refl)
 
 pub same_owner_kept : (h : Linked) (v : Owner) → Some ((h.row).owner) ≡ Some v → v ≡ (h.row).owner
 same_owner_kept h v e = cc

@@ -25,7 +25,7 @@ use Rattle.lf_graph.specs.FlatRows.{IsFlat, KeepsFields, StoreView, chain_of, co
 use Rattle.lf_graph.specs.RowChanges.{changed, moved_last, under, with_fields, with_refs, without_row}
 use Rattle.lf_graph.specs.StoredRows.{CountedRow, SameByOwner}
 use Rattle.lf_graph.proofs.CellLists.{IsFieldList-same}
-use Rattle.lf_graph.proofs.ChainLemmas.{name_flips}
+use Rattle.lf_graph.proofs.NameOrder.{name_turns}
 use Rattle.lf_graph.proofs.Changes.{KeepsOwner}
 use Rattle.lf_graph.proofs.FieldPairs.{fields_without, pairs_same, walked_keys_are}
 use Rattle.lf_graph.proofs.CellMaps.{Decides-same_key}
@@ -117,7 +117,7 @@ module _ (t u : Chains) (cells now : Cells) (flat : IsFlat t cells) (v : StoreVi
         agree x = elim (same_name x o) as (λ b. same_name x o ≡ b → counted_at (heads_of u.rows) (cells_of now) x ≡ cond b (f (counted_at (heads_of t.rows) (cells_of cells) x)) (counted_at (heads_of t.rows) (cells_of cells) x)) [
           | true ↦ λ e. subst (λ y. counted_at (heads_of u.rows) (cells_of now) y ≡ f (counted_at (heads_of t.rows) (cells_of cells) y)) (sym (same_name_is x o e))
               (here_after t u cells now flat o (Some s) (chain_of t) chains stored others here ∙ is_f ∙ ap f (ap (counted_by (cells_of cells) o) (sym kept)))
-          | false ↦ λ n. there_after t u cells now flat o (Some s) (chain_of t) chains stored others here x (name_flips x o n)
+          | false ↦ λ n. there_after t u cells now flat o (Some s) (chain_of t) chains stored others here x (name_turns x o n)
         ] refl
 
   -- a new row comes last

@@ -28,7 +28,8 @@ use Rattle.lf_graph.specs.Chains.{AreChains, IsChain, is_of, link_at, owner_at, 
 use Rattle.lf_graph.specs.FlatRows.{chain_of, counted_at, counted_by, flat_rows, region_rows, rows_under}
 use Rattle.lf_graph.specs.RowTables.{head_by, key_of}
 use Rattle.lf_graph.specs.StoredRows.{CountedRow, rows_of}
-use Rattle.lf_graph.proofs.ChainLemmas.{name_flips, or_true}
+use Rattle.lf_base.proofs.Members.{or_true}
+use Rattle.lf_graph.proofs.NameOrder.{name_turns}
 use Rattle.lf_graph.proofs.Reordered.{owner_is, owner_itself, rows_append}
 use Rattle.lf_graph.proofs.Shown.{nil_right, Names, Shows}
 
@@ -125,7 +126,7 @@ module _ (t : Chains) (cells : Cells) where
           | true ↦ λ k _. let p = same_name_is r e.0 k in
               ap (λ l. cond (same_name e.0 r) (rows_under t cells (In e.0)) [] ++ l) (none_among (In r) es (subst (λ u. AllByRecursion (λ v. same_name u v ≡ false) (keys_of es)) (sym p) (IsDistinct-head same_name e.0 (keys_of es) d)))
               ∙ ap (λ u. cond (same_name u r) (rows_under t cells (In u)) [] ++ []) (sym p) ∙ ap (λ b. cond b (rows_under t cells (In r)) [] ++ []) (same_name_itself r) ∙ nil_right (rows_under t cells (In r))
-          | false ↦ λ k s. ap (λ b. cond b (rows_under t cells (In e.0)) [] ++ rows_of (In r) (region_rows t cells es)) (name_flips r e.0 k) ∙ among r es (IsDistinct-tail same_name e.0 (keys_of es) d) s
+          | false ↦ λ k s. ap (λ b. cond b (rows_under t cells (In e.0)) [] ++ rows_of (In r) (region_rows t cells es)) (name_turns r e.0 k) ∙ among r es (IsDistinct-tail same_name e.0 (keys_of es) d) s
         ] refl s)
 
     not_found : (r : ObjId) (es : List (ObjId × Ends)) → lookup (same_name r) es ≡ None → AllByRecursion (λ q. same_name r q ≡ false) (keys_of es)

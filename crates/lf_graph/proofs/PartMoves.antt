@@ -19,7 +19,8 @@ use Rattle.lf_graph.specs.FlatRows.{IsFlat, StoreView, chain_of, counted_at, fla
 use Rattle.lf_graph.specs.Parts.{AllNew}
 use Rattle.lf_graph.specs.RowChanges.{without_row, without_rows}
 use Rattle.lf_graph.specs.StoredRows.{CountedRow, HasRow, IsNewName, SameByOwner, is_named, is_under, row_named, rows_of, rows_outside}
-use Rattle.lf_graph.proofs.ChainLemmas.{or_true, other_owner}
+use Rattle.lf_base.proofs.Members.{or_true}
+use Rattle.lf_graph.proofs.ChainLemmas.{other_owner}
 use Rattle.lf_graph.proofs.Changes.{found_append, same_append, same_filter}
 use Rattle.lf_graph.proofs.FieldCopies.{take_more}
 use Rattle.lf_graph.proofs.FlatFound.{shown}

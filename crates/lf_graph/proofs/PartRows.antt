@@ -23,7 +23,8 @@ use Rattle.lf_graph.specs.Chains.{is_of, owner_at, row_at}
 use Rattle.lf_graph.specs.FlatParts.{CopiesRow, EachRow, IsPart, IsPartRow, part_cells, part_head, part_row, rows_cells}
 use Rattle.lf_graph.specs.FlatRows.{IsFlat, chain_of, counted_at, counted_by, rows_under}
 use Rattle.lf_graph.specs.StoredRows.{CountedRow}
-use Rattle.lf_graph.proofs.ChainLemmas.{name_flips, or_true}
+use Rattle.lf_base.proofs.Members.{or_true}
+use Rattle.lf_graph.proofs.NameOrder.{name_turns}
 use Rattle.lf_graph.proofs.FieldCopies.{take_more}
 use Rattle.lf_graph.proofs.FlatView.{counted_owner}
 use Rattle.lf_graph.proofs.Reordered.{owner_is}
@@ -59,7 +60,7 @@ copies_row heads m o r fields here e = record {
 -- ---- the rows
 after_front : (front : List ObjId) (o : ObjId) (rest : List ObjId) → Differ same_name (front ++ o ∷ rest) → after same_name o (front ++ o ∷ rest) ≡ head_or rest None
 after_front [] o rest d = ap (λ b. cond b (head_or rest None) (after same_name o rest)) (same_name_itself o)
-after_front (x ∷ xs) o rest d = ap (λ b. cond b (head_or (xs ++ o ∷ rest) None) (after same_name o (xs ++ o ∷ rest))) (name_flips x o (lacks_middle x xs o rest d.0)) ∙ after_front xs o rest d.1 where
+after_front (x ∷ xs) o rest d = ap (λ b. cond b (head_or (xs ++ o ∷ rest) None) (after same_name o (xs ++ o ∷ rest))) (name_turns x o (lacks_middle x xs o rest d.0)) ∙ after_front xs o rest d.1 where
   lacks_middle : (x : ObjId) (xs : List ObjId) (o : ObjId) (rest : List ObjId) → Lacks same_name x (xs ++ o ∷ rest) → same_name x o ≡ false
   lacks_middle x [] o rest l = l.0
   lacks_middle x (y ∷ ys) o rest l = lacks_middle x ys o rest l.1

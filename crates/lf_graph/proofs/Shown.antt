@@ -9,7 +9,7 @@ use Rattle.lf_base.proofs.Names.{same_name_is}
 use Rattle.lf_graph.specs.Chains.{is_of, left_without, pushed}
 use Rattle.lf_graph.specs.RowChanges.{changed, without_row}
 use Rattle.lf_graph.specs.StoredRows.{CountedRow, SameByOwner, first_name, is_named, is_under, name_after, row_named, rows_of}
-use Rattle.lf_graph.proofs.ChainLemmas.{or_none}
+use Rattle.lf_base.proofs.LinkedLists.{or_none}
 use Rattle.lf_graph.proofs.Changes.{KeepsOwner, at_keeps_owner, filter_turns, name_flips, rows_of_map}
 use Rattle.lf_graph.proofs.Reordered.{owner_itself, rows_append}
 use Rattle.lf_graph.proofs.Walks.{no_name_filter}

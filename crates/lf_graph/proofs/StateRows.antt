@@ -2,6 +2,7 @@
 use Rattle.std.proofs.Common.{Bool, List, None, Some, [], ap, cond, false, inl, inr, map, not, refl, subst, sym, true, ◌++◌, ◌||◌, ◌∙◌, ◌∷◌, ◌≡◌}
 use Rattle.std.specs.List.{filter}
 use Rattle.std.specs.Option.{is_some, option_map}
+use Rattle.std.proofs.Math.Bool.{or-false}
 use Rattle.std.proofs.lemmas.List.{append-nil}
 use Rattle.lf_base.specs.declared.ids.ObjId.{ObjId}
 use Rattle.lf_base.specs.declared.values.Key.{Key}
@@ -182,14 +183,10 @@ moved_is_changed (c ∷ cs) o w d =
       | false ↦ λ e. skip (moved_is_changed cs o w d.1)
     ] refl
 
-or_none : (b : Bool) → (b || false) ≡ b
-or_none true = refl
-or_none false = refl
-
 relabelled : (o : ObjId) (w : Owner) (c : CountedRow) → (cond (is_named o c) (with_owner w c) c).row ≡ cond (has_name (o ∷ []) (c.row).name) (record (c.row) { owner = w }) c.row
 relabelled o w c =
     (elim (is_named o c) as (λ b. (cond b (with_owner w c) c).row ≡ cond b (record (c.row) { owner = w }) c.row) [ true ↦ refl | false ↦ refl ])
-    ∙ ap (λ b. cond b (record (c.row) { owner = w }) c.row) (name_flips (c.row).name o ∙ sym (or_none (same_name o (c.row).name)))
+    ∙ ap (λ b. cond b (record (c.row) { owner = w }) c.row) (name_flips (c.row).name o ∙ sym (or-false (same_name o (c.row).name)))
 
 relabel_keeps : (o : ObjId) (w : Owner) (r : Row) → (cond (has_name (o ∷ []) r.name) (record r { owner = w }) r).name ≡ r.name
 relabel_keeps o w r = elim (has_name (o ∷ []) r.name) as (λ b. (cond b (record r { owner = w }) r).name ≡ r.name) [ true ↦ refl | false ↦ refl ]
