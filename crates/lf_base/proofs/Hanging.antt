@@ -1,22 +1,23 @@
--- Where each bare unit is a suspect, each row that must go hangs on one.
+-- Where each bare unit is a suspect, each row that must go hangs on one. Where nothing is left to watch, nothing must go.
 use Rattle.std.proofs.Common.{Bool, List, Some, [], ap, ap₂, cond, false, inl, inr, length, map, not, refl, subst, suc, sym, true, zero, ℕ, ◌&&◌, ◌++◌, ◌||◌, ◌∙◌, ◌∷◌, ◌≡◌}
 use Rattle.std.specs.List.{filter, list_any}
 use Rattle.lf_base.specs.declared.ids.ObjId.{ObjId}
 use Rattle.lf_base.specs.declared.values.Owner.{Owner}
 use Rattle.lf_base.specs.declared.values.Owner.TheVariants.{Frozen, In, Local}
 use Rattle.lf_base.specs.Edges.{Edge, Field, content_edges, edges, field_targets, rows_edges, slot_edges}
-use Rattle.lf_base.specs.Kept.{is_owned_by, kept_rows, points, points_into, stays_by_owner}
+use Rattle.lf_base.specs.Kept.{is_owned_by, kept_rows, points, points_into, stays, stays_by_owner}
 use Rattle.lf_base.specs.Names.{is_local, same_name}
 use Rattle.lf_base.specs.Owners.{bridges, has_name, has_row, is_bridge, is_in, owner_in}
 use Rattle.lf_base.specs.Ownership.{is_from, is_owning, owns, round}
 use Rattle.lf_base.specs.PlainState.{Row, State}
 use Rattle.lf_base.specs.Sets.{Member, grow, least}
+use Rattle.lf_base.specs.Settling.{Watched}
 use Rattle.lf_base.specs.Suspects.{AllHang, Bare, Hangs, LeadsTo, MustGo, Object, Region, Suspect, Suspected, by_region, by_row, by_row_into, itself}
 use Rattle.lf_base.specs.WalkCounts.{is_borrower}
 use Rattle.lf_base.specs.WellFormed.{from_row}
-use Rattle.lf_base.proofs.Dropped.{and_join, and_parts, in_region, mem_has, not_false, row_of, some_is}
+use Rattle.lf_base.proofs.Dropped.{and_join, and_parts, in_region, mem_has, not_false, row_of, some_is, sub_all, sub_same, sub_shrink}
 use Rattle.lf_base.proofs.Least.{Grows, least_closed}
-use Rattle.lf_base.proofs.Lookup.{EdgeRow, edge_in, edge_row, joined_has, kept_stays, named, no_both, owner_has, owner_mem, row_edge, to_local, to_region}
+use Rattle.lf_base.proofs.Lookup.{EdgeRow, edge_in, edge_row, joined_has, kept_in, kept_stays, named, no_both, owner_has, owner_mem, row_edge, to_local, to_region}
 use Rattle.lf_base.proofs.Members.{Member_any, Member_map, any_Member, any_more, or_true}
 use Rattle.lf_base.proofs.Names.{same_name_is, same_name_itself}
 use Rattle.lf_base.proofs.Sets.{Member_filter, Member_left, Member_of_append, Member_of_filter, Member_right, Within, greatest_has}
@@ -378,3 +379,17 @@ module _ (s : State) (g : Setting s) (w : List Suspect) where
           by_either (has_row hung o)
           (λ e. let x = named hung o e in subst (Hangs s w) x.1.1 (hung_hangs x.0 x.1.0).hangs)
           (λ e. absurd (no_left t.0 t.1.0 (t.0).owner refl (ap (has_row (kept_rows s)) t.1.1 ∙ must.goes, ap (has_row hung) t.1.1 ∙ e)))
+
+-- on no suspect nothing hangs
+none_hangs : (s : State) {o : ObjId} → Hangs s [] o → ⊥
+none_hangs s (itself m) = m
+none_hangs s (by_region r own top m) = m
+none_hangs s (by_row p leads must h) = none_hangs s h
+none_hangs s (by_row_into p q r own top in_it leads must h) = none_hangs s h
+
+-- when no suspect is left nothing must go
+pub settled : (s : State) → Setting s → Watched s [] → round s ≡ [] → kept_rows s ≡ s.rows
+settled s g w still =
+    let none : Suspected s [] = record { locals = w.locals; regions = λ r own bare. (w.regions r own bare).1.0; inners = w.inners } in
+    let stays_row : (x : Row) → Member x s.rows → has_row (kept_rows s) x.name ≡ true = λ x m. true_by _ (λ e. none_hangs s (suspected_hang s g [] none still x.name (record { here = mem_has x s.rows m; goes = e }))) in
+    sub_same (kept_rows s) s.rows s.rows g.distinct (sub_shrink (stays s) (length s.rows) s.rows) (sub_all s.rows) (kept_in s) (λ x m. kept_row s g x m (stays_row x m))

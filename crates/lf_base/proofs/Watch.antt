@@ -1,14 +1,13 @@
--- What hangs on a suspect is watched, and where nothing is left to watch nothing must go.
-use Rattle.std.proofs.Common.{Bool, List, None, Option, Some, [], ap, ap₂, cond, false, inl, inr, length, map, not, refl, subst, sym, true, ◌&&◌, ◌++◌, ◌||◌, ◌∙◌, ◌∷◌, ◌≡◌, ◌⊎◌}
-use Rattle.std.specs.List.{filter, list_any}
+-- What hangs on a suspect is watched.
+use Rattle.std.proofs.Common.{Bool, List, None, Option, Some, [], ap, cond, false, inl, inr, not, refl, subst, sym, true, ◌&&◌, ◌++◌, ◌||◌, ◌∙◌, ◌∷◌, ◌≡◌, ◌⊎◌}
 use Rattle.lf_base.specs.declared.ids.ObjId.{ObjId}
 use Rattle.lf_base.specs.declared.values.Owner.{Owner}
 use Rattle.lf_base.specs.declared.values.Owner.TheVariants.{Frozen, In, Local}
-use Rattle.lf_base.specs.Edges.{Edge, Field, content_edges, edges, rows_edges, slot_edges}
-use Rattle.lf_base.specs.Kept.{is_owned_by, kept_rows, points, points_into, stays, stays_by_owner}
+use Rattle.lf_base.specs.Edges.{Edge, Field, content_edges, rows_edges, slot_edges}
+use Rattle.lf_base.specs.Kept.{is_owned_by, kept_rows, points, points_into, stays_by_owner}
 use Rattle.lf_base.specs.Names.{is_local, same_name}
-use Rattle.lf_base.specs.Owners.{bridges, has_row, is_bridge, is_in, is_local_at, owner_in, row_at}
-use Rattle.lf_base.specs.Ownership.{is_from, is_in_other, is_owning, owns, round}
+use Rattle.lf_base.specs.Owners.{has_row, is_in, is_local_at, owner_in, row_at}
+use Rattle.lf_base.specs.Ownership.{is_in_other, is_owning}
 use Rattle.lf_base.specs.PlainState.{Row, State}
 use Rattle.lf_base.specs.Sets.{Member}
 use Rattle.lf_base.specs.Settling.{Watched, WatchedBy}
@@ -16,11 +15,11 @@ use Rattle.lf_base.specs.Suspects.{AllHang, Bare, Hangs, LeadsTo, MustGo, Object
 use Rattle.lf_base.specs.WalkCounts.{is_borrower}
 use Rattle.lf_base.specs.WellFormed.{Leads, from_row}
 use Rattle.lf_base.proofs.Counts.{Distinct}
-use Rattle.lf_base.proofs.Dropped.{and_join, and_parts, in_region, mem_has, not_false, row_of, some_is, sub_all, sub_same, sub_shrink}
-use Rattle.lf_base.proofs.Lookup.{EdgeRow, edge_in, edge_row, in_is, joined_has, kept_in, kept_stays, named, no_both, owner_has, owner_is, owner_mem, row_edge, row_leads, to_local, to_region}
-use Rattle.lf_base.proofs.Members.{Member_any, Member_map, any_Member, any_more, or_true}
+use Rattle.lf_base.proofs.Dropped.{and_join, mem_has, some_is}
+use Rattle.lf_base.proofs.Lookup.{EdgeRow, edge_in, edge_row, in_is, kept_in, kept_stays, named, no_both, owner_has, owner_is, owner_mem, row_edge, row_leads, to_region}
+use Rattle.lf_base.proofs.Members.{Member_any}
 use Rattle.lf_base.proofs.Names.{same_name_is, same_name_itself}
-use Rattle.lf_base.proofs.Sets.{Member_filter, Member_left, Member_of_append, Member_of_filter, Member_right, Within, greatest_has}
+use Rattle.lf_base.proofs.Sets.{Member_left, Member_right}
 use Rattle.lf_base.proofs.Stays.{by_owner}
 
 pub record Setting (s : State) : Type 0 where
@@ -169,158 +168,3 @@ module _ (s : State) (g : Setting s) where
     regions = λ r e b. hang_region w r b r e (h r (bare_goes r (In r) e (bare_region r b)));
     inners = λ o r e d k n. hang_inner w o r e k n (h o (bare_goes o (In r) e (bare_inner o r d n)));
   }
-
-  -- ---- nothing left to watch
-  points_by : (rows : List Row) (o : ObjId) (v : Owner) → owner_in s.rows o ≡ Some v → points s.rows s o ≡ true → ((x : Row) → Member x s.rows → from_row (Some (x.owner)) o (Some v) ≡ true → Member x rows) → points rows s o ≡ true
-  points_by rows o v h e f =
-      let t = any_Member (λ (d : Edge). same_name d.to o) (near_edges s.rows) e in
-      let to : (t.0).to ≡ o = same_name_is (t.0).to o t.1.1 in
-      Member_any (λ (d : Edge). same_name d.to o) t.0 (near_edges rows)
-      (elim (Member_of_append t.0 (slot_edges s.slots) (rows_edges s.rows) t.1.0) [
-        | inl m ↦ Member_left t.0 (slot_edges s.slots) (rows_edges rows) m
-        | inr m ↦ let x = edge_row s.rows t.0 m in
-            Member_right t.0 (slot_edges s.slots) (rows_edges rows) (row_edge rows x.row t.0
-            (f x.row x.mem (subst (λ n. from_row (Some ((x.row).owner)) n (Some v) ≡ true) to (source t.0 x v (ap (owner_in s.rows) to ∙ h))))
-            x.from x.to)
-      ])
-      t.1.1
-
-  module _ (w : Watched s []) where
-    abbrev near : List Row
-    near = filter (λ x. is_local x.owner) s.rows
-
-    all_near : Within near (kept_rows s)
-    all_near = joined_has s near (λ x m.
-        let t = Member_of_filter (λ (y : Row). is_local y.owner) x s.rows m in
-        let here : x.owner ≡ Local = local_is x.owner t.1 in
-        let own : owner_in s.rows x.name ≡ Some Local = owner_mem s.rows g.distinct x t.0 ∙ ap Some here in (
-          t.0,
-          ap (stays_by_owner s (kept_rows s ++ near) x.name) here
-              ∙ points_by (kept_rows s ++ near) x.name Local own (true_by _ (λ n. w.locals x.name own n))
-              (λ y k f. Member_right y (kept_rows s) near (Member_filter (λ (z : Row). is_local z.owner) y s.rows k (ap is_local (to_local y.owner x.name f)))),
-        ))
-
-    pub local_stays : (x : Row) → Member x s.rows → x.owner ≡ Local → Member x (kept_rows s)
-    local_stays x m e = all_near x (Member_filter (λ (z : Row). is_local z.owner) x s.rows m (ap is_local e))
-
-    module _ (r : ObjId) (there : has_row (kept_rows s) r ≡ true) where
-      abbrev part : List Row
-      part = filter (λ x. is_in r (Some (x.owner))) s.rows
-
-      part_more : Within (kept_rows s) (kept_rows s ++ part)
-      part_more x m = Member_left x (kept_rows s) part m
-
-      part_one : (x : Row) → Member x s.rows → x.owner ≡ In r → stays_by_owner s (kept_rows s ++ part) x.name (In r) ≡ true
-      part_one x m e =
-          let own : owner_in s.rows x.name ≡ Some (In r) = owner_mem s.rows g.distinct x m ∙ ap Some e in
-          elim (same_name r x.name) as (λ b. same_name r x.name ≡ b → stays_by_owner s (kept_rows s ++ part) x.name (In r) ≡ true) [
-            | true ↦ λ h.
-                let same : r ≡ x.name = same_name_is r x.name h in
-                by_owner s (kept_rows s) (kept_rows s ++ part) x.name (In r) part_more (kept_stays s g.distinct x.name (In r) own (ap (has_row (kept_rows s)) (sym same) ∙ there))
-            | false ↦ λ h.
-                ap (λ c. cond c (is_owned_by (kept_rows s ++ part) s r || points_into (kept_rows s ++ part) s r) (has_row (kept_rows s ++ part) r && points (kept_rows s ++ part) s x.name)) h
-                ∙ and_join _ _ (any_more _ (kept_rows s) (kept_rows s ++ part) part_more there)
-                (points_by (kept_rows s ++ part) x.name (In r) own (true_by _ (λ n. w.inners x.name r own h there n))
-                (λ y k f. elim (to_region y.owner x.name r f) [
-                  | inl l ↦ Member_left y (kept_rows s) part (local_stays y k l)
-                  | inr (inl l) ↦ Member_right y (kept_rows s) part (Member_filter (λ (z : Row). is_in r (Some (z.owner))) y s.rows k (ap (λ z. is_in r (Some z)) l ∙ same_name_itself r))
-                  | inr (inr l) ↦ absurd (no_both _ (ap (same_name r) (sym l.1.1.1) ∙ same_name_itself r) h)
-                ]))
-          ] refl
-
-      part_stays : Within part (kept_rows s)
-      part_stays = joined_has s part (λ x m.
-          let t = Member_of_filter (λ (y : Row). is_in r (Some (y.owner))) x s.rows m in
-          let e : x.owner ≡ In r = some_is x.owner (In r) (in_region r (Some (x.owner)) t.1) in
-          (t.0, ap (stays_by_owner s (kept_rows s ++ part) x.name) e ∙ part_one x t.0 e))
-
-      pub inner_stays : (x : Row) → Member x s.rows → x.owner ≡ In r → Member x (kept_rows s)
-      inner_stays x m e = part_stays x (Member_filter (λ (z : Row). is_in r (Some (z.owner))) x s.rows m (ap (λ z. is_in r (Some z)) e ∙ same_name_itself r))
-
-    -- a bridge that is justified by what stays does so too
-    bridge_stays : (r : ObjId) → owner_in s.rows r ≡ Some (In r) → (is_owned_by (kept_rows s) s r || points_into (kept_rows s) s r) ≡ true → has_row (kept_rows s) r ≡ true
-    bridge_stays r h e =
-        let b = row_of s.rows r (In r) h in
-        let one : List Row = b.row ∷ [] in
-        let up : stays_by_owner s (kept_rows s) r (In r) ≡ true = ap (λ c. cond c (is_owned_by (kept_rows s) s r || points_into (kept_rows s) s r) (has_row (kept_rows s) r && points (kept_rows s) s r)) (same_name_itself r) ∙ e in
-        let m : Member (b.row) (kept_rows s) = joined_has s one (λ x k. elim k [
-          | inl q ↦ (
-            subst (λ y. Member y s.rows) q b.mem,
-            subst (λ (y : Row). stays_by_owner s (kept_rows s ++ one) y.name y.owner ≡ true) q
-                (ap₂ (stays_by_owner s (kept_rows s ++ one)) b.name b.owner ∙ by_owner s (kept_rows s) (kept_rows s ++ one) r (In r) (λ z n. Member_left z (kept_rows s) one n) up),
-          )
-          | inr q ↦ absurd q
-        ]) b.row (inl refl) in
-        subst (λ n. has_row (kept_rows s) n ≡ true) b.name (mem_has b.row (kept_rows s) m)
-
-    abbrev gone : List ObjId
-    gone = filter (λ r. not (has_row (kept_rows s) r)) (bridges s)
-
-    gone_mem : (q : ObjId) → owner_in s.rows q ≡ Some (In q) → has_row (kept_rows s) q ≡ false → Member q gone
-    gone_mem q h n =
-        let t = row_of s.rows q (In q) h in
-        Member_filter (λ r. not (has_row (kept_rows s) r)) q (bridges s)
-        (Member_filter (is_bridge s.rows) q (map (λ r. r.name) s.rows) (subst (λ k. Member k (map (λ r. r.name) s.rows)) t.name (Member_map (λ (r : Row). r.name) t.row s.rows t.mem)) (ap (is_in q) h ∙ same_name_itself q))
-        (not_false _ n)
-
-    owned_gone : (r : ObjId) → owner_in s.rows r ≡ Some (In r) → has_row (kept_rows s) r ≡ false → list_any (λ q. owns s q r) gone ≡ true
-    owned_gone r h n =
-        let no : (is_owned_by (kept_rows s) s r || points_into (kept_rows s) s r) ≡ true → ⊥ = λ e. no_both _ (bridge_stays r h e) n in
-        elim (or_split (is_owned_by s.rows s r) (points_into s.rows s r) (true_by (is_owned_by s.rows s r || points_into s.rows s r) (λ e. (w.regions r h (record { unowned = elim (is_owned_by s.rows s r) as (λ b. (b || points_into s.rows s r) ≡ false → b ≡ false) [ true ↦ λ k. cc | false ↦ λ k. refl ] e; unborrowed = elim (is_owned_by s.rows s r) as (λ b. (b || points_into s.rows s r) ≡ false → points_into s.rows s r ≡ false) [ true ↦ λ k. cc | false ↦ λ k. k ] e })).1.0))) [
-          | inl owned ↦
-              let t = any_Member (λ (e : Edge). is_owning s.rows e.from r && same_name e.to r) (rows_edges s.rows ++ (content_edges s.held ++ content_edges s.made)) owned in
-              let p = and_parts _ _ t.1.1 in
-              elim (Member_of_append t.0 (rows_edges s.rows) (content_edges s.held ++ content_edges s.made) t.1.0) [
-                | inl m ↦
-                    let x = edge_row s.rows t.0 m in
-                    let z = other_is r (owner_in s.rows (x.row).name) (ap (λ f. is_owning s.rows f r) (sym x.from) ∙ p.0) in
-                    let q : ObjId = z.region in
-                    let at : (x.row).owner ≡ In q = some_is ((x.row).owner) (In q) (sym (owner_mem s.rows g.distinct x.row x.mem) ∙ z.is) in
-                    let top : owner_in s.rows q ≡ Some (In q) = g.bridge (x.row).name q z.is in
-                    elim (has_row (kept_rows s) q) as (λ b. has_row (kept_rows s) q ≡ b → list_any (λ q. owns s q r) gone ≡ true) [
-                      | true ↦ λ k. absurd (no (or_left _ _ (Member_any _ t.0 (rows_edges (kept_rows s) ++ (content_edges s.held ++ content_edges s.made)) (Member_left t.0 (rows_edges (kept_rows s)) _ (row_edge (kept_rows s) x.row t.0 (inner_stays q k x.row x.mem at) x.from x.to)) t.1.1)))
-                      | false ↦ λ k. Member_any (λ q. owns s q r) q gone (gone_mem q top k)
-                          (and_join _ _ (ap not z.other) (and_join _ _ (ap (is_in r) h ∙ same_name_itself r)
-                          (Member_any (λ (e : Edge). is_from s.rows q e.from && same_name e.to r) t.0 (edges s) (edge_in s t.0 m)
-                          (and_join _ _ (ap (is_from s.rows q) x.from ∙ ap (is_in q) z.is ∙ same_name_itself q) p.1))))
-                    ] refl
-                | inr m ↦ absurd (no (or_left _ _ (Member_any _ t.0 (rows_edges (kept_rows s) ++ (content_edges s.held ++ content_edges s.made)) (Member_right t.0 (rows_edges (kept_rows s)) _ m) t.1.1)))
-              ]
-          | inr into ↦
-              let t = any_Member (λ (e : Edge). is_borrower s.rows e.from && is_in r (owner_in s.rows e.to)) (near_edges s.rows) into in
-              let p = and_parts _ _ t.1.1 in
-              absurd (no (ap (λ c. is_owned_by (kept_rows s) s r || c) (Member_any _ t.0 (near_edges (kept_rows s))
-              (elim (Member_of_append t.0 (slot_edges s.slots) (rows_edges s.rows) t.1.0) [
-                | inl m ↦ Member_left t.0 (slot_edges s.slots) (rows_edges (kept_rows s)) m
-                | inr m ↦ let x = edge_row s.rows t.0 m in
-                    let l = local_at_is (owner_in s.rows (x.row).name) (ap (is_borrower s.rows) (sym x.from) ∙ p.0) in
-                    Member_right t.0 (slot_edges s.slots) (rows_edges (kept_rows s))
-                    (row_edge (kept_rows s) x.row t.0 (local_stays x.row x.mem (some_is ((x.row).owner) Local (sym (owner_mem s.rows g.distinct x.row x.mem) ∙ l))) x.from x.to)
-              ])
-              t.1.1) ∙ or_true _))
-        ]
-
-    module _ (still : round s ≡ []) where
-      none_gone : (r : ObjId) → Member r gone → ⊥
-      none_gone r m = subst (λ l. Member r l) still
-          (greatest_has (λ qs r. list_any (λ q. owns s q r) qs) (λ xs ys x v e. any_more (λ q. owns s q x) xs ys v e) (bridges s) gone
-          (λ q k. let t = Member_of_filter (λ r. not (has_row (kept_rows s) r)) q (bridges s) k in
-          let u = Member_of_filter (is_bridge s.rows) q (map (λ r. r.name) s.rows) t.0 in
-          owned_gone q (in_region q (owner_in s.rows q) u.1) (not_true _ t.1))
-          (λ q k. (Member_of_filter (λ r. not (has_row (kept_rows s) r)) q (bridges s) k).0)
-          r m)
-
-      bridges_stay : (r : ObjId) → owner_in s.rows r ≡ Some (In r) → has_row (kept_rows s) r ≡ true
-      bridges_stay r h = true_by _ (λ n. none_gone r (gone_mem r h n))
-
-      by_cases : (x : Row) → Member x s.rows → (v : Owner) → x.owner ≡ v → Member x (kept_rows s)
-      by_cases x m Local e = local_stays x m e
-      by_cases x m (In r) e = inner_stays r (bridges_stay r (g.bridge x.name r (owner_mem s.rows g.distinct x m ∙ ap Some e))) x m e
-      by_cases x m Frozen e = joined_has s (x ∷ []) (λ y k. elim k [
-        | inl q ↦ (subst (λ z. Member z s.rows) q m, subst (λ (z : Row). stays_by_owner s (kept_rows s ++ (x ∷ [])) z.name z.owner ≡ true) q (ap (stays_by_owner s (kept_rows s ++ (x ∷ [])) x.name) e))
-        | inr q ↦ absurd q
-      ]) x (inl refl)
-
-      -- when no suspect is left nothing must go
-      pub settled : kept_rows s ≡ s.rows
-      settled = sub_same (kept_rows s) s.rows s.rows g.distinct (sub_shrink (stays s) (length s.rows) s.rows) (sub_all s.rows) (kept_in s) (λ x m. by_cases x m x.owner refl)

@@ -17,12 +17,13 @@ use Rattle.lf_base.specs.WalkCounts.{is_borrower}
 use Rattle.lf_base.specs.WellFormed.{from_content, from_near, from_row, may_lead}
 use Rattle.lf_base.proofs.Counts.{Distinct}
 use Rattle.lf_base.proofs.Dropped.{and_join, and_parts, any_weaker, mem_has, not_false, or_map, sub_filter, sub_same, sub_shrink, sub_then, sub_within}
+use Rattle.lf_base.proofs.Hanging.{settled}
 use Rattle.lf_base.proofs.Lookup.{edge_row, kept_in, no_both, owner_there}
 use Rattle.lf_base.proofs.Members.{Member_map, Member_of_flat_map, Member_of_map, Within_append, Within_flat_map, any_more, or_true}
 use Rattle.lf_base.proofs.Names.{same_name_is}
 use Rattle.lf_base.proofs.Sets.{Member_filter, Member_left, Member_of_append, Member_of_filter, Member_right, Within, greatest_has, greatest_meets}
 use Rattle.lf_base.proofs.Stays.{kept_has, kept_meets}
-use Rattle.lf_base.proofs.Watch.{Setting, false_by, field_is, hang_watched, not_true, or_left, settled}
+use Rattle.lf_base.proofs.Watch.{Setting, false_by, field_is, hang_watched, not_true, or_left}
 
 -- ---- look-ups
 pub owner_stay : (rows : List Row) (gone : ObjId → Bool) (o : ObjId) → gone o ≡ false → owner_in (filter (λ r. not (gone r.name)) rows) o ≡ owner_in rows o

@@ -1,8 +1,9 @@
 use Rattle.std.proofs.Common.{inl, inr}
 use Rattle.lf_base.proofs.Choice.{choice, goes, idle}
+use Rattle.lf_base.proofs.Hanging.{settled}
 use Rattle.lf_base.proofs.LeftWhole.{well_formed_without}
 use Rattle.lf_base.proofs.Setting.{setting_of}
-use Rattle.lf_base.proofs.Watch.{hang_watched, settled}
+use Rattle.lf_base.proofs.Watch.{hang_watched}
 use Rattle.lf_base.proofs.Without.{kept_without, watched_forget, watched_without}
 use Rattle.lf_base.proofs.laws.settling_steps.Goals as goal
 
