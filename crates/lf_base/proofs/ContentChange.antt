@@ -1,7 +1,7 @@
 -- A content that is replaced or added keeps a state well-formed exactly where it shows no fault.
-use Rattle.std.proofs.Common.{Bool, List, None, Option, Some, [], ap, arith, cond, false, inl, inr, length, map, not, refl, subst, sym, true, ℕ, ◌&&◌, ◌++◌, ◌+◌, ◌||◌, ◌∙◌, ◌∷◌, ◌≡◌, ◌≤◌, ◌⊎◌}
+use Rattle.std.proofs.Common.{Bool, List, None, Option, Some, [], ap, arith, cond, false, inl, inr, map, refl, subst, sym, true, ℕ, ◌&&◌, ◌++◌, ◌+◌, ◌||◌, ◌∙◌, ◌∷◌, ◌≡◌, ◌≤◌, ◌⊎◌}
 use Rattle.std.proofs.lemmas.List.Sums.{sum_by-append}
-use Rattle.std.specs.List.{count_by, flat_map, list_any}
+use Rattle.std.specs.List.{count_by, flat_map}
 use Rattle.std.specs.Prelude.{ltb}
 use Rattle.lf_base.specs.declared.faults.Fault.{Fault}
 use Rattle.lf_base.specs.declared.faults.Fault.TheVariants.{Interior, SecondOwner}
@@ -14,20 +14,20 @@ use Rattle.lf_base.specs.declared.values.Value.TheVariants.{Obj}
 use Rattle.lf_base.specs.ContentResult.{content_fault, target_fault, targets_fault}
 use Rattle.lf_base.specs.Edges.{Content, Edge, Field, Slot, Source, content_edges, edges, edges_by, rows_edges, slot_edges}
 use Rattle.lf_base.specs.Names.{cowns_of_value, same_cown, same_name, targets_of_value}
-use Rattle.lf_base.specs.Owners.{bridges, has_row, is_bridge, is_in, or_frozen, owner_in, owner_of}
-use Rattle.lf_base.specs.Ownership.{is_from, is_owning, owning_edges, owns, round}
+use Rattle.lf_base.specs.Owners.{has_row, is_bridge, is_in, or_frozen, owner_in, owner_of}
+use Rattle.lf_base.specs.Ownership.{is_from, is_owning, owning_edges, owns}
 use Rattle.lf_base.specs.PlainState.{State}
 use Rattle.lf_base.specs.Sets.{Differ, Member}
 use Rattle.lf_base.specs.WellFormed.{IsNumber, Leads, SlotMayHold, WellFormed, all_cowns, all_values, content_values, field_values, from_content, from_near, may_lead, own_cowns, slot_values}
-use Rattle.lf_base.proofs.Dropped.{and_join, and_parts, any_weaker, in_region, sub_shrink, sub_within}
+use Rattle.lf_base.proofs.Dropped.{and_parts, in_region}
 use Rattle.lf_base.proofs.Goes.{none_count}
 use Rattle.lf_base.proofs.Lookup.{no_both}
-use Rattle.lf_base.proofs.Members.{Member_any, Member_flat_map, Member_of_flat_map, Member_of_map, any_Member, any_more}
+use Rattle.lf_base.proofs.Members.{Member_flat_map, Member_of_flat_map, Member_of_map}
 use Rattle.lf_base.proofs.Names.{same_name_is, same_name_itself}
+use Rattle.lf_base.proofs.OwnersGoRound.{owns_before, round_before}
 use Rattle.lf_base.proofs.Quiet.{few, in_not_frozen, is_or_frozen, many}
-use Rattle.lf_base.proofs.Sets.{Member_left, Member_of_append, Member_right, greatest_has, greatest_meets}
+use Rattle.lf_base.proofs.Sets.{Member_left, Member_of_append, Member_right}
 use Rattle.lf_base.proofs.Watch.{false_by}
-use Rattle.lf_base.proofs.Without.{within_nil}
 
 abbrev pub contents : State → List Edge
 contents s = content_edges s.held ++ content_edges s.made
@@ -157,22 +157,11 @@ module _ (s : State) (n : ℕ) (held made : List (CownId × Value)) (c : CownId)
   from_fields : (q : ObjId) (f : Source) → is_from s.rows q f ≡ true → f ≡ Content c → ⊥
   from_fields q f e h = let z : is_from s.rows q (Content c) ≡ true = ap (is_from s.rows q) (sym h) ∙ e in cc
 
-  owns_before : (q r : ObjId) → owns after q r ≡ true → owns s q r ≡ true
-  owns_before q r e =
-      let a = and_parts (not (same_name q r)) _ e in
-      let b = and_parts (is_bridge s.rows r) _ a.1 in
-      let x = any_Member (λ (d : Edge). is_from s.rows q d.from && same_name d.to r) (edges after) b.1 in
-      and_join _ _ a.0 (and_join _ _ b.0 (elim (edge_after x.0 x.1.0) [
-        | inl m ↦ Member_any (λ (d : Edge). is_from s.rows q d.from && same_name d.to r) x.0 (edges s) m x.1.1
-        | inr m ↦ absurd (from_fields q (x.0).from (and_parts _ _ x.1.1).0 (new_from x.0 m).0)
-      ]))
-
-  round_after : round after ≡ []
-  round_after = within_nil (round after) (λ r m. subst (λ l. Member r l) t.no_round
-      (greatest_has (λ qs r. list_any (λ q. owns s q r) qs) (λ xs ys x w k. any_more (λ q. owns s q x) xs ys w k) (bridges s) (round after)
-      (λ q k. any_weaker (λ p. owns after p q) (λ p. owns s p q) (round after) (λ p n h. owns_before p q h) (greatest_meets (λ qs r. list_any (λ q. owns after q r) qs) (bridges after) q k))
-      (λ q k. sub_within (sub_shrink (λ qs r. list_any (λ q. owns after q r) qs) (length (bridges after)) (bridges after)) q k)
-      r m))
+  owns_old : (q r : ObjId) → owns after q r ≡ true → owns s q r ≡ true
+  owns_old q r = owns_before s after q r (λ e m f n b. elim (edge_after e m) [
+    | inl o ↦ (o, (f, b))
+    | inr o ↦ absurd (from_fields q e.from f (new_from e o).0)
+  ])
 
   abbrev owning : ObjId → Edge → Bool
   owning r d = is_owning s.rows d.from r && same_name d.to r
@@ -235,7 +224,7 @@ module _ (s : State) (n : ℕ) (held made : List (CownId × Value)) (c : CownId)
     bridge = t.bridge;
     leads = content_leads e;
     one_owner = one_after e;
-    no_round = round_after;
+    no_round = round_before s after owns_old t.no_round;
     objects_numbered = t.objects_numbered;
     cowns_numbered = numbered_after;
     cowns_differ = u.differ;

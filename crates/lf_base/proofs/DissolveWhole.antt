@@ -10,15 +10,15 @@ use Rattle.lf_base.specs.Edges.{Content, Edge, Field, Slot, Source, edges}
 use Rattle.lf_base.specs.MergeResult.{relabel_region}
 use Rattle.lf_base.specs.Names.{same_name}
 use Rattle.lf_base.specs.Owners.{has_row, is_bridge, is_in, or_frozen, owner_in, owner_of}
-use Rattle.lf_base.specs.Ownership.{Above, direct, is_from, is_in_other, is_owned, is_owning, owning_edges, owns, step}
+use Rattle.lf_base.specs.Ownership.{is_in_other, is_owned, is_owning, owning_edges, owns}
 use Rattle.lf_base.specs.PlainState.{Row, State}
 use Rattle.lf_base.specs.Sets.{Member}
 use Rattle.lf_base.specs.WellFormed.{Leads, WellFormed, from_content, from_frozen, from_inner, from_row, may_lead}
 use Rattle.lf_base.proofs.Dropped.{and_join, and_parts, in_region, some_is, sub_all}
 use Rattle.lf_base.proofs.Lookup.{no_both}
-use Rattle.lf_base.proofs.Members.{Member_any, any_Member}
+use Rattle.lf_base.proofs.Members.{Member_any}
 use Rattle.lf_base.proofs.Names.{same_name_is, same_name_itself}
-use Rattle.lf_base.proofs.OwnersGoRound.{none_above}
+use Rattle.lf_base.proofs.OwnersGoRound.{none_above, owns_within, straight_before}
 use Rattle.lf_base.proofs.Quiet.{in_not_frozen, is_or_frozen, lead_near, local_not_frozen}
 use Rattle.lf_base.proofs.RegionMoves.{became, edge_before, edges_same, frozen_on, moves_keep, near_on, nothing, region_owner, swap_other, swap_region, swapped, the_new, the_same}
 use Rattle.lf_base.proofs.Sublists.{count_sub}
@@ -143,23 +143,8 @@ module _ (s : State) (t : WellFormed s) (r : ObjId) (own : owner_in s.rows r ≡
             (λ d h. let k = and_parts (is_owning rows d.from b) (same_name d.to b) h in and_join _ _ (owning_before d.from b k.0) k.1) (sub_all (edges s)),
       )
 
-  from_before : (q : ObjId) (f : Source) → is_from rows q f ≡ true → is_from s.rows q f ≡ true
-  from_before q Slot e = e
-  from_before q (Field p) e = in_before q p e
-  from_before q (Content c) e = e
-
-  owns_before : (q x : ObjId) → owns after q x ≡ true → owns s q x ≡ true
-  owns_before q x e =
-      let a = and_parts (not (same_name q x)) _ e in
-      let b = and_parts (is_bridge rows x) _ a.1 in
-      let y = any_Member (λ (d : Edge). is_from rows q d.from && same_name d.to x) (edges after) b.1 in
-      let p = and_parts (is_from rows q (y.0).from) (same_name (y.0).to x) y.1.1 in
-      and_join _ _ a.0 (and_join _ _ (in_before x x b.0)
-      (Member_any (λ (d : Edge). is_from s.rows q d.from && same_name d.to x) y.0 (edges s) (edge_before r Local s t y.0 y.1.0) (and_join _ _ (from_before q (y.0).from p.0) p.1)))
-
-  above_before : {q x : ObjId} → Above after q x → Above s q x
-  above_before (direct {q} {r = x} e) = direct (owns_before q x e)
-  above_before (step {q} {p} e a) = step (owns_before q p e) (above_before a)
+  owns_old : (q x : ObjId) → owns after q x ≡ true → owns s q x ≡ true
+  owns_old = owns_within s after (edge_before r Local s t) in_before
 
   pub dissolve_keeps : WellFormed after
-  dissolve_keeps = moves_keep r Local s t local_not_frozen bridge_after leads_after one_after (λ x a. none_above s t.no_round x (above_before a))
+  dissolve_keeps = moves_keep r Local s t local_not_frozen bridge_after leads_after one_after (straight_before s after owns_old (none_above s t.no_round))

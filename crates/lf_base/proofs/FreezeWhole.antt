@@ -11,8 +11,8 @@ use Rattle.lf_base.specs.declared.values.Value.{Value}
 use Rattle.lf_base.specs.Edges.{Content, Edge, Field, Slot, Source, content_edges, edges, field_targets, row_edges, rows_edges, slot_edges}
 use Rattle.lf_base.specs.FreezeResult.{brings_in, freeze_result, freeze_set, frozen_row, insert_rows}
 use Rattle.lf_base.specs.Names.{cowns_of_value, name_below, same_key, same_name}
-use Rattle.lf_base.specs.Owners.{has_name, has_row, is_bridge, is_in, names, or_frozen, owner_in, owner_of}
-use Rattle.lf_base.specs.Ownership.{Above, direct, is_from, is_in_other, is_owning, owning_edges, owns, step}
+use Rattle.lf_base.specs.Owners.{has_name, has_row, is_in, names, or_frozen, owner_in, owner_of}
+use Rattle.lf_base.specs.Ownership.{is_in_other, is_owning, owning_edges, owns}
 use Rattle.lf_base.specs.PlainState.{Row, State}
 use Rattle.lf_base.specs.Sets.{Differ, Member}
 use Rattle.lf_base.specs.WellFormed.{Leads, WellFormed, all_cowns, all_names, all_values, content_values, field_values, from_content, from_near, from_row, may_lead, own_cowns, slot_values}
@@ -21,10 +21,10 @@ use Rattle.lf_base.proofs.Dropped.{Sub, and_join, and_parts, mem_has, row_of, su
 use Rattle.lf_base.proofs.Goes.{at_content, at_frozen, at_row, at_slot, begins, none_count}
 use Rattle.lf_base.proofs.InsertedRows.{Apart, all_inserted, all_order, append_assoc, differ_all, distinct_frozen, distinct_sub, has_all, has_append, has_frozen}
 use Rattle.lf_base.proofs.Lookup.{edge_row, named, no_both, owner_there}
-use Rattle.lf_base.proofs.Members.{Member_any, Member_flat_map, Member_map, Member_of_flat_map, Member_of_map, Within_flat_map, any_Member, any_more, or_true}
+use Rattle.lf_base.proofs.Members.{Member_flat_map, Member_map, Member_of_flat_map, Member_of_map, Within_flat_map, any_more, or_true}
 use Rattle.lf_base.proofs.MovedRows.{differ_apart, differ_rows, has_names}
 use Rattle.lf_base.proofs.Names.{same_name_itself}
-use Rattle.lf_base.proofs.OwnersGoRound.{none_above, round_none}
+use Rattle.lf_base.proofs.OwnersGoRound.{owns_within, round_before}
 use Rattle.lf_base.proofs.Paths.{freeze_closed, freeze_part, freeze_within, in_named}
 use Rattle.lf_base.proofs.SameOwners.{lead_there}
 use Rattle.lf_base.proofs.Sets.{Member_left, Member_of_append, Member_of_filter, Member_right}
@@ -287,23 +287,8 @@ module _ (s : State) (v : Value) (t : WellFormed s) where
         none_owns r,
       )
 
-  from_before : (q : ObjId) (f : Source) → is_from rows q f ≡ true → is_from s.rows q f ≡ true
-  from_before q Slot e = e
-  from_before q (Field p) e = show (is_in q) refl s.rows gone p e
-  from_before q (Content c) e = e
-
-  owns_before : (q r : ObjId) → owns after q r ≡ true → owns s q r ≡ true
-  owns_before q r e =
-      let a = and_parts (not (same_name q r)) _ e in
-      let b = and_parts (is_bridge rows r) _ a.1 in
-      let x = any_Member (λ (d : Edge). is_from rows q d.from && same_name d.to r) (edges after) b.1 in
-      let p = and_parts (is_from rows q (x.0).from) (same_name (x.0).to r) x.1.1 in
-      and_join _ _ a.0 (and_join _ _ (show (is_in r) refl s.rows gone r b.0)
-      (Member_any (λ (d : Edge). is_from s.rows q d.from && same_name d.to r) x.0 (edges s) (edge_before x.0 x.1.0) (and_join _ _ (from_before q (x.0).from p.0) p.1)))
-
-  above_before : {q r : ObjId} → Above after q r → Above s q r
-  above_before (direct {q} {r} e) = direct (owns_before q r e)
-  above_before (step {q} {p} e a) = step (owns_before q p e) (above_before a)
+  owns_old : (q r : ObjId) → owns after q r ≡ true → owns s q r ≡ true
+  owns_old = owns_within s after edge_before (λ q p e. show (is_in q) refl s.rows gone p e)
 
   -- ---- names, keys and values after
   own_row : (x : Row) → Member x own → ((y : Row) × (Member y s.rows × (frozen_row y ≡ x))) ⊎ Member x s.own
@@ -398,7 +383,7 @@ module _ (s : State) (v : Value) (t : WellFormed s) where
     bridge = bridge_after;
     leads = leads_after;
     one_owner = λ r b. let one = t.one_owner r (show (is_in r) refl s.rows gone r b) in omega (arith, one, fewer r);
-    no_round = round_none after (λ r a. none_above s t.no_round r (above_before a));
+    no_round = round_before s after owns_old t.no_round;
     objects_numbered = λ o m. t.objects_numbered o (name_before o m);
     cowns_numbered = λ c m. t.cowns_numbered c (cown_before c m);
     cowns_differ = t.cowns_differ;

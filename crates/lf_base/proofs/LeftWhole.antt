@@ -6,8 +6,8 @@ use Rattle.lf_base.specs.declared.values.Owner.TheVariants.{In}
 use Rattle.lf_base.specs.declared.values.Value.{Value}
 use Rattle.lf_base.specs.Edges.{Content, Edge, Field, Slot, Source, content_edges, edges, row_edges, rows_edges, slot_edges}
 use Rattle.lf_base.specs.Names.{cowns_of_value, name_below, same_name}
-use Rattle.lf_base.specs.Owners.{has_row, is_bridge, is_in, names, or_frozen, owner_in, owner_of}
-use Rattle.lf_base.specs.Ownership.{Above, direct, is_from, is_in_other, is_owning, owning_edges, owns, step}
+use Rattle.lf_base.specs.Owners.{has_row, is_in, names, or_frozen, owner_in, owner_of}
+use Rattle.lf_base.specs.Ownership.{is_in_other, is_owning, owning_edges, owns}
 use Rattle.lf_base.specs.PlainState.{Row, State}
 use Rattle.lf_base.specs.Sets.{Member}
 use Rattle.lf_base.specs.Settling.{CanGo, without}
@@ -15,9 +15,8 @@ use Rattle.lf_base.specs.WellFormed.{WellFormed, all_cowns, all_values, content_
 use Rattle.lf_base.proofs.Dropped.{Sub, and_join, and_parts, sub_all, sub_filter, sub_within}
 use Rattle.lf_base.proofs.Goes.{at_content, at_frozen, at_row, at_slot, begins}
 use Rattle.lf_base.proofs.Lookup.{no_both, owner_there}
-use Rattle.lf_base.proofs.Members.{Member_any, any_Member}
 use Rattle.lf_base.proofs.MovedRows.{differ_rows}
-use Rattle.lf_base.proofs.OwnersGoRound.{none_above, round_none}
+use Rattle.lf_base.proofs.OwnersGoRound.{owns_within, round_before}
 use Rattle.lf_base.proofs.Sets.{Member_left, Member_of_append, Member_of_filter, Member_right}
 use Rattle.lf_base.proofs.Setting.{setting_of}
 use Rattle.lf_base.proofs.Sublists.{count_sub, differ_sub, name_below_trans, order_sub, sub_append, sub_flat_map, sub_map}
@@ -89,23 +88,8 @@ module _ (s : State) (gone : ObjId → Bool) (t : WellFormed s) (c : MayLeave s 
   lead_same (Field p) o l n = (λ i. from_row (owner_same p (l p refl) i) o (owner_same o n i))
   lead_same (Content k) o l n = ap (from_content o) (owner_same o n)
 
-  from_before : (q : ObjId) (f : Source) → is_from rest.rows q f ≡ true → is_from s.rows q f ≡ true
-  from_before q Slot e = e
-  from_before q (Field p) e = show (is_in q) refl s.rows gone p e
-  from_before q (Content k) e = e
-
-  owns_before : (q r : ObjId) → owns rest q r ≡ true → owns s q r ≡ true
-  owns_before q r e =
-      let a = and_parts (not (same_name q r)) _ e in
-      let b = and_parts (is_bridge rest.rows r) _ a.1 in
-      let x = any_Member (λ (d : Edge). is_from rest.rows q d.from && same_name d.to r) (edges rest) b.1 in
-      let p = and_parts (is_from rest.rows q (x.0).from) (same_name (x.0).to r) x.1.1 in
-      and_join _ _ a.0 (and_join _ _ (show (is_in r) refl s.rows gone r b.0)
-      (Member_any (λ (d : Edge). is_from s.rows q d.from && same_name d.to r) x.0 (edges s) (sub_within edges_part x.0 x.1.0) (and_join _ _ (from_before q (x.0).from p.0) p.1)))
-
-  above_before : {q r : ObjId} → Above rest q r → Above s q r
-  above_before (direct {q} {r} e) = direct (owns_before q r e)
-  above_before (step {q} {p} e a) = step (owns_before q p e) (above_before a)
+  owns_old : (q r : ObjId) → owns rest q r ≡ true → owns s q r ≡ true
+  owns_old = owns_within s rest (λ e m. sub_within edges_part e m) (λ q p e. show (is_in q) refl s.rows gone p e)
 
   pub left_well_formed : WellFormed rest
   left_well_formed = record {
@@ -123,7 +107,7 @@ module _ (s : State) (gone : ObjId → Bool) (t : WellFormed s) (c : MayLeave s 
         owner_stay s.rows gone r (false_by _ (λ e. no_both _ (c.whole o r k.1 e) k.0)) ∙ t.bridge o r k.1;
     leads = λ e m. lead_same e.from e.to (source_left e m) (c.clear e m) ∙ t.leads e (sub_within edges_part e m);
     one_owner = λ r b. let one = t.one_owner r (show (is_in r) refl s.rows gone r b) in omega (arith, one, owning_less r);
-    no_round = round_none rest (λ r a. none_above s t.no_round r (above_before a));
+    no_round = round_before s rest owns_old t.no_round;
     objects_numbered = λ o m. t.objects_numbered o (sub_within (sub_append names_part (sub_all (names s.given ++ names s.own))) o m);
     cowns_numbered = λ d m. t.cowns_numbered d (sub_within cowns_part d m);
     cowns_differ = t.cowns_differ;

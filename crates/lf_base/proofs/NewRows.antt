@@ -1,5 +1,5 @@
 -- A new object and a new region keep a state well-formed.
-use Rattle.std.proofs.Common.{Bool, List, None, Option, Some, [], ap, arith, cond, false, inl, inr, map, not, refl, subst, sym, true, ℕ, ◌&&◌, ◌++◌, ◌+◌, ◌||◌, ◌∙◌, ◌∷◌, ◌≡◌, ◌≤◌, ◌⊎◌}
+use Rattle.std.proofs.Common.{Bool, List, None, Option, Some, [], ap, arith, cond, false, inl, inr, map, refl, subst, sym, true, ℕ, ◌&&◌, ◌++◌, ◌+◌, ◌||◌, ◌∙◌, ◌∷◌, ◌≡◌, ◌≤◌, ◌⊎◌}
 use Rattle.std.proofs.lemmas.List.Sums.{sum_by-cons}
 use Rattle.std.specs.List.{count_by, flat_map}
 use Rattle.lf_base.specs.declared.ids.ObjId.{ObjId}
@@ -10,19 +10,18 @@ use Rattle.lf_base.specs.declared.values.Value.{Value}
 use Rattle.lf_base.specs.Edges.{Content, Edge, Field, Slot, Source, content_edges, edges, rows_edges, slot_edges}
 use Rattle.lf_base.specs.Names.{cowns_of_value, same_key, same_name}
 use Rattle.lf_base.specs.Owners.{has_name, has_row, is_bridge, is_in, names, or_frozen, owner_in, owner_of}
-use Rattle.lf_base.specs.Ownership.{Above, direct, is_from, is_in_other, is_owning, owning_edges, owns, step}
+use Rattle.lf_base.specs.Ownership.{is_from, is_in_other, is_owning, owning_edges, owns}
 use Rattle.lf_base.specs.PlainChanges.{insert_row, next_object, with_row}
 use Rattle.lf_base.specs.PlainState.{Row, State}
 use Rattle.lf_base.specs.Sets.{Differ, Member}
 use Rattle.lf_base.specs.WellFormed.{IsNumber, Leads, WellFormed, all_names, content_values, field_values, from_content, from_near, from_row, may_lead, own_cowns, slot_values}
-use Rattle.lf_base.proofs.Dropped.{and_join, and_parts, some_is}
+use Rattle.lf_base.proofs.Dropped.{and_parts, some_is}
 use Rattle.lf_base.proofs.Goes.{any_none, none_count}
 use Rattle.lf_base.proofs.InsertedRows.{inserted, inserted_differ, inserted_edges, inserted_name, inserted_order, inserted_owner, inserted_values}
 use Rattle.lf_base.proofs.Lookup.{in_is, no_both, owner_has}
-use Rattle.lf_base.proofs.Members.{Member_any, any_Member}
 use Rattle.lf_base.proofs.MovedRows.{has_names}
 use Rattle.lf_base.proofs.Names.{same_name_is, same_name_itself}
-use Rattle.lf_base.proofs.OwnersGoRound.{none_above, round_none}
+use Rattle.lf_base.proofs.OwnersGoRound.{owns_before, round_before}
 use Rattle.lf_base.proofs.Quiet.{in_not_frozen, in_not_local, local_not_frozen}
 use Rattle.lf_base.proofs.SameOwners.{lead_there}
 use Rattle.lf_base.proofs.Sets.{Member_left, Member_of_append, Member_right, Within}
@@ -141,20 +140,11 @@ module _ (s : State) (w : Owner) (t : WellFormed s) (kind : NewOwner s w) where
     | false ↦ λ h. let one = t.one_owner r (ap (is_in r) (sym (owner_else r h)) ∙ b) in omega (arith, one, owning_count r)
   ] refl
 
-  owns_before : (q r : ObjId) → owns after q r ≡ true → owns s q r ≡ true
-  owns_before q r e =
-      let a = and_parts (not (same_name q r)) _ e in
-      let b = and_parts (is_bridge rows r) _ a.1 in
-      let x = any_Member (λ (d : Edge). is_from rows q d.from && same_name d.to r) (edges after) b.1 in
-      let m = edge_before x.0 x.1.0 in
-      let p = and_parts (is_from rows q (x.0).from) (same_name (x.0).to r) x.1.1 in
-      let old : same_name new r ≡ false = ap (same_name new) (sym (same_name_is (x.0).to r p.1)) ∙ target_old x.0 m in
-      and_join _ _ a.0 (and_join _ _ (ap (is_in r) (sym (owner_else r old)) ∙ b.0)
-      (Member_any (λ (d : Edge). is_from s.rows q d.from && same_name d.to r) x.0 (edges s) m (and_join _ _ (sym (from_old x.0 m (x.0).from refl q) ∙ p.0) p.1)))
-
-  above_before : {q r : ObjId} → Above after q r → Above s q r
-  above_before (direct {q} {r} e) = direct (owns_before q r e)
-  above_before (step {q} {p} e a) = step (owns_before q p e) (above_before a)
+  owns_old : (q r : ObjId) → owns after q r ≡ true → owns s q r ≡ true
+  owns_old q r = owns_before s after q r (λ e m f n b.
+      let k = edge_before e m in
+      let old : same_name new r ≡ false = ap (same_name new) (sym (same_name_is e.to r n)) ∙ target_old e k in
+      (k, (sym (from_old e k e.from refl q) ∙ f, ap (is_in r) (sym (owner_else r old)) ∙ b)))
 
   region_of_new : (r : ObjId) → w ≡ In r → owner_in rows r ≡ Some (In r)
   region_of_new r e = elim kind [
@@ -192,7 +182,7 @@ module _ (s : State) (w : Owner) (t : WellFormed s) (kind : NewOwner s w) where
     bridge = bridge_after;
     leads = leads_after;
     one_owner = one_after;
-    no_round = round_none after (λ r a. none_above s t.no_round r (above_before a));
+    no_round = round_before s after owns_old t.no_round;
     objects_numbered = λ o m e. elim (Member_of_append o (names rows) (names s.given ++ names s.own) m) [
       | inl k ↦ elim (inserted_name row s.rows o k) [
         | inl z ↦ subst (λ (n : ObjId). IsNumber n.seq (s.objects + 1)) z (omega arith, omega arith)

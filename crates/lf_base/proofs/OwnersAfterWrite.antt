@@ -1,12 +1,12 @@
 -- A write into a region: owners go round after it exactly where a bridge that the region then owns was above it.
-use Rattle.std.proofs.Common.{List, Some, [], ap, cond, false, inl, inr, not, refl, subst, sym, true, ◌&&◌, ◌∙◌, ◌≡◌, ◌⊎◌}
+use Rattle.std.proofs.Common.{List, Some, [], ap, cond, false, inl, inr, not, refl, subst, sym, true, ◌∙◌, ◌≡◌, ◌⊎◌}
 use Rattle.lf_base.specs.declared.ids.ObjId.{ObjId}
 use Rattle.lf_base.specs.declared.values.Key.{Key}
 use Rattle.lf_base.specs.declared.values.Owner.TheVariants.{In}
 use Rattle.lf_base.specs.declared.values.Value.{Value}
 use Rattle.lf_base.specs.Edges.{Content, Edge, Field, Slot, Source, edges, rows_edges, slot_edges}
 use Rattle.lf_base.specs.Names.{same_name}
-use Rattle.lf_base.specs.Owners.{is_bridge, is_in, owner_in}
+use Rattle.lf_base.specs.Owners.{is_in, owner_in}
 use Rattle.lf_base.specs.Ownership.{Above, is_from, owns, round}
 use Rattle.lf_base.specs.PlainState.{Row, State}
 use Rattle.lf_base.specs.Sets.{Member}
@@ -14,13 +14,13 @@ use Rattle.lf_base.specs.WellFormed.{SlotMayHold, WellFormed}
 use Rattle.lf_base.specs.WriteResult.{is_at, put_field, relabel, write_fields}
 use Rattle.lf_base.proofs.Climb.{OwnsMore, round_after, straight_after}
 use Rattle.lf_base.proofs.Counts.{Distinct, with_rows}
-use Rattle.lf_base.proofs.Dropped.{and_join, and_parts, in_region, some_is}
+use Rattle.lf_base.proofs.Dropped.{and_parts, in_region, some_is}
 use Rattle.lf_base.proofs.Goes.{at_content, at_frozen, at_row, at_slot, begins}
 use Rattle.lf_base.proofs.Lookup.{edge_row, in_is, no_both, owner_is, row_edge}
-use Rattle.lf_base.proofs.Members.{Member_any, Member_map, any_Member}
+use Rattle.lf_base.proofs.Members.{Member_map}
 use Rattle.lf_base.proofs.MovedRows.{differ_rows, edges_relabel, moved_names}
 use Rattle.lf_base.proofs.Names.{same_name_is, same_name_itself}
-use Rattle.lf_base.proofs.OwnersGoRound.{none_above, round_none}
+use Rattle.lf_base.proofs.OwnersGoRound.{none_above, owns_before, round_none}
 use Rattle.lf_base.proofs.Quiet.{in_not_local}
 use Rattle.lf_base.proofs.Sets.{Member_left, Member_right}
 use Rattle.lf_base.proofs.Watch.{false_by, field_is, not_true}
@@ -84,20 +84,15 @@ module _ (s : State) (t : WellFormed s) (x : ObjId) (k : Key) (v : Value) (home 
   from_is rows q (Content d) e = cc
 
   owns_old : (q r : ObjId) → owns after q r ≡ true → same_name q home ≡ false → owns s q r ≡ true
-  owns_old q r e n =
-      let a = and_parts (not (same_name q r)) _ e in
-      let b = and_parts (is_bridge rows r) _ a.1 in
-      let y = any_Member (λ (d : Edge). is_from rows q d.from && same_name d.to r) (edges after) b.1 in
-      let p = and_parts (is_from rows q (y.0).from) (same_name (y.0).to r) y.1.1 in
-      let f = from_is rows q (y.0).from p.0 in
+  owns_old q r w n = owns_before s after q r (λ e m g i b.
+      let f = from_is rows q e.from g in
       let own : owner_in s.rows f.name ≡ Some (In q) = new_owner f.name q f.owner n in
-      and_join _ _ a.0 (and_join _ _ (ap (is_in r) (bridge_old r (in_region r (owner_in rows r) b.0)) ∙ same_name_itself r)
-      (elim (c.old_or_new y.0 y.1.0) [
-        | inl m ↦ Member_any (λ (d : Edge). is_from s.rows q d.from && same_name d.to r) y.0 (edges s) m (and_join _ _ (ap (is_from s.rows q) f.is ∙ ap (is_in q) own ∙ same_name_itself q) p.1)
-        | inr m ↦
-            let same : f.name ≡ x = field_is f.name x (sym f.is ∙ m.0) in
+      elim (c.old_or_new e m) [
+        | inl o ↦ (o, (ap (is_from s.rows q) f.is ∙ ap (is_in q) own ∙ same_name_itself q, ap (is_in r) (bridge_old r (in_region r (owner_in rows r) b)) ∙ same_name_itself r))
+        | inr o ↦
+            let same : f.name ≡ x = field_is f.name x (sym f.is ∙ o.0) in
             absurd (no_both _ (ap (λ z. same_name z home) (in_is q home (owner_is s.rows x (In q) (In home) (ap (owner_in s.rows) (sym same) ∙ own) at)) ∙ same_name_itself home) n)
-      ]))
+      ]) w
 
   distinct : Distinct s.rows
   distinct = differ_rows s.rows _ t.names_differ
@@ -112,17 +107,12 @@ module _ (s : State) (t : WellFormed s) (x : ObjId) (k : Key) (v : Value) (home 
   ]
 
   owns_new : (q r : ObjId) → owns s q r ≡ true → same_name q home ≡ false → owns after q r ≡ true
-  owns_new q r e n =
-      let a = and_parts (not (same_name q r)) _ e in
-      let b = and_parts (is_bridge s.rows r) _ a.1 in
-      let y = any_Member (λ (d : Edge). is_from s.rows q d.from && same_name d.to r) (edges s) b.1 in
-      let p = and_parts (is_from s.rows q (y.0).from) (same_name (y.0).to r) y.1.1 in
-      let f = from_is s.rows q (y.0).from p.0 in
-      let other : same_name f.name x ≡ false = false_by _ (λ h. no_both _ (ap (λ z. same_name z home) (in_is q home (owner_is s.rows x (In q) (In home) (ap (owner_in s.rows) (sym (same_name_is f.name x h)) ∙ f.owner) at)) ∙ same_name_itself home) n) in
-      and_join _ _ a.0 (and_join _ _ (ap (is_in r) (old_owner r r (in_region r (owner_in s.rows r) b.0)) ∙ same_name_itself r)
-      (Member_any (λ (d : Edge). is_from rows q d.from && same_name d.to r) y.0 (edges after)
-      (still y.0 f.name y.1.0 (row_edge_of y.0 f.name q y.1.0 f.is f.owner) f.is other)
-      (and_join _ _ (ap (is_from rows q) f.is ∙ ap (is_in q) (old_owner f.name q f.owner) ∙ same_name_itself q) p.1)))
+  owns_new q r w n = owns_before after s q r (λ e m g i b.
+      let f = from_is s.rows q e.from g in
+      let other : same_name f.name x ≡ false = false_by _ (λ h. no_both _ (ap (λ z. same_name z home) (in_is q home (owner_is s.rows x (In q) (In home) (ap (owner_in s.rows) (sym (same_name_is f.name x h)) ∙ f.owner) at)) ∙ same_name_itself home) n) in (
+        still e f.name m (row_edge_of e f.name q m f.is f.owner) f.is other,
+        (ap (is_from rows q) f.is ∙ ap (is_in q) (old_owner f.name q f.owner) ∙ same_name_itself q, ap (is_in r) (old_owner r r (in_region r (owner_in s.rows r) b)) ∙ same_name_itself r),
+      )) w
 
   region_owned : OwnsMore s after home (λ r. owns after home r ≡ true)
   region_owned = record {

@@ -1,16 +1,17 @@
--- Owners go round exactly where some bridge is above itself.
-use Rattle.std.proofs.Common.{Bool, List, [], ap, arith, cond, false, inl, inr, length, map, not, refl, subst, suc, sym, true, zero, ℕ, ◌<◌, ◌||◌, ◌∙◌, ◌∷◌, ◌≡◌, ◌⊎◌}
+-- Owners go round exactly where some bridge is above itself. A change that adds no owner doesn't make them go round.
+use Rattle.std.proofs.Common.{Bool, List, [], ap, arith, cond, false, inl, inr, length, map, not, refl, subst, suc, sym, true, zero, ℕ, ◌&&◌, ◌<◌, ◌||◌, ◌∙◌, ◌∷◌, ◌≡◌, ◌⊎◌}
 use Rattle.std.specs.List.{filter, list_any}
 use Rattle.lf_base.specs.declared.ids.ObjId.{ObjId}
 use Rattle.lf_base.specs.declared.values.Owner.TheVariants.{In}
+use Rattle.lf_base.specs.Edges.{Content, Edge, Field, Slot, Source, edges}
 use Rattle.lf_base.specs.Names.{same_name}
-use Rattle.lf_base.specs.Owners.{bridges, is_bridge, owner_in}
-use Rattle.lf_base.specs.Ownership.{Above, NoRound, direct, owns, round, step}
+use Rattle.lf_base.specs.Owners.{bridges, is_bridge, is_in, owner_in}
+use Rattle.lf_base.specs.Ownership.{Above, NoRound, direct, is_from, owns, round, step}
 use Rattle.lf_base.specs.PlainState.{Row, State}
 use Rattle.lf_base.specs.Sets.{Member}
-use Rattle.lf_base.proofs.Dropped.{and_parts, in_region, not_false, row_of}
+use Rattle.lf_base.proofs.Dropped.{and_join, and_parts, in_region, not_false, row_of}
 use Rattle.lf_base.proofs.Lookup.{no_both}
-use Rattle.lf_base.proofs.Members.{Member_map, any_Member, any_more, or_true}
+use Rattle.lf_base.proofs.Members.{Member_any, Member_map, any_Member, any_more, or_true}
 use Rattle.lf_base.proofs.Names.{same_name_is, same_name_itself}
 use Rattle.lf_base.proofs.Sets.{Member_filter, Within, greatest_has, greatest_meets, length_filter_le}
 use Rattle.lf_base.proofs.Watch.{or_left}
@@ -101,3 +102,38 @@ module _ (s : State) where
 
   pub round_none : NoRound s → round s ≡ []
   round_none straight = empty_by (round s) straight (greatest_meets owned_in (bridges s))
+
+-- ---- owners after a change
+module _ (s after : State) where
+  -- an owner was one before where its edge and both ends were
+  pub owns_before : (q r : ObjId)
+      → ((e : Edge) → Member e (edges after) → is_from after.rows q e.from ≡ true → same_name e.to r ≡ true → is_bridge after.rows r ≡ true → Member e (edges s) × ((is_from s.rows q e.from ≡ true) × (is_bridge s.rows r ≡ true)))
+      → owns after q r ≡ true → owns s q r ≡ true
+  owns_before q r old e =
+      let a = and_parts (not (same_name q r)) _ e in
+      let b = and_parts (is_bridge after.rows r) _ a.1 in
+      let x = any_Member (λ (d : Edge). is_from after.rows q d.from && same_name d.to r) (edges after) b.1 in
+      let p = and_parts (is_from after.rows q (x.0).from) (same_name (x.0).to r) x.1.1 in
+      let was = old x.0 x.1.0 p.0 p.1 b.0 in
+      and_join _ _ a.0 (and_join _ _ was.1.1 (Member_any (λ (d : Edge). is_from s.rows q d.from && same_name d.to r) x.0 (edges s) was.0 (and_join _ _ was.1.0 p.1)))
+
+  from_before : ((q p : ObjId) → is_in q (owner_in after.rows p) ≡ true → is_in q (owner_in s.rows p) ≡ true) → (q : ObjId) (f : Source) → is_from after.rows q f ≡ true → is_from s.rows q f ≡ true
+  from_before old q Slot e = e
+  from_before old q (Field p) e = old q p e
+  from_before old q (Content c) e = e
+
+  -- where no edge and no member of a region is new, no owner is
+  pub owns_within : Within (edges after) (edges s) → ((q p : ObjId) → is_in q (owner_in after.rows p) ≡ true → is_in q (owner_in s.rows p) ≡ true)
+      → (q r : ObjId) → owns after q r ≡ true → owns s q r ≡ true
+  owns_within edge old q r = owns_before q r (λ e m f n b. (edge e m, (from_before old q e.from f, old r r b)))
+
+  above_before : ((q r : ObjId) → owns after q r ≡ true → owns s q r ≡ true) → {q r : ObjId} → Above after q r → Above s q r
+  above_before old (direct {q} {r} e) = direct (old q r e)
+  above_before old (step {q} {p} e a) = step (old q p e) (above_before old a)
+
+  -- where no owner is new, owners don't go round if they didn't
+  pub straight_before : ((q r : ObjId) → owns after q r ≡ true → owns s q r ≡ true) → NoRound s → NoRound after
+  straight_before old straight r a = straight r (above_before old a)
+
+  pub round_before : ((q r : ObjId) → owns after q r ≡ true → owns s q r ≡ true) → round s ≡ [] → round after ≡ []
+  round_before old e = round_none after (straight_before old (none_above s e))

@@ -1,5 +1,5 @@
 -- A change of slots and fields that leaves names and owners and adds at most edges from slots keeps a state well-formed.
-use Rattle.std.proofs.Common.{Bool, List, None, Option, Some, ap, arith, cond, inl, inr, map, not, refl, subst, sym, true, ℕ, ◌&&◌, ◌++◌, ◌||◌, ◌∙◌, ◌≡◌, ◌≤◌, ◌⊎◌}
+use Rattle.std.proofs.Common.{Bool, List, None, Option, Some, ap, arith, cond, inl, inr, map, refl, subst, sym, true, ℕ, ◌&&◌, ◌++◌, ◌||◌, ◌∙◌, ◌≡◌, ◌≤◌, ◌⊎◌}
 use Rattle.std.proofs.lemmas.List.Sums.{sum_by-append}
 use Rattle.std.specs.List.{count_by, flat_map}
 use Rattle.std.specs.Prelude.{option_to_list}
@@ -10,18 +10,17 @@ use Rattle.lf_base.specs.declared.values.Owner.{Owner}
 use Rattle.lf_base.specs.declared.values.Value.{Value}
 use Rattle.lf_base.specs.Edges.{Content, Edge, Field, Slot, Source, content_edges, edges, edges_by, field_targets, row_edges, rows_edges, slot_edges, slot_targets}
 use Rattle.lf_base.specs.Names.{cowns_of_value, name_below, same_key, same_name, targets_of_value}
-use Rattle.lf_base.specs.Owners.{has_row, is_bridge, is_in, names, or_frozen, owner_in, owner_of}
-use Rattle.lf_base.specs.Ownership.{Above, direct, is_from, is_owning, owning_edges, owns, step}
+use Rattle.lf_base.specs.Owners.{has_row, is_in, names, or_frozen, owner_in, owner_of}
+use Rattle.lf_base.specs.Ownership.{is_from, is_owning, owning_edges, owns}
 use Rattle.lf_base.specs.PlainChanges.{with_slots}
 use Rattle.lf_base.specs.PlainState.{Row, State}
 use Rattle.lf_base.specs.Sets.{Differ, InOrder, Member}
 use Rattle.lf_base.specs.WellFormed.{IsNumber, Leads, SlotMayHold, WellFormed, all_cowns, all_values, content_values, field_values, from_content, from_near, from_row, may_lead, own_cowns, slot_values}
-use Rattle.lf_base.proofs.Dropped.{and_join, and_parts}
 use Rattle.lf_base.proofs.Goes.{none_count, slot_begins}
 use Rattle.lf_base.proofs.Lookup.{owner_mem}
-use Rattle.lf_base.proofs.Members.{Member_any, Member_flat_map, Member_map, Member_of_flat_map, Member_of_map, any_Member}
+use Rattle.lf_base.proofs.Members.{Member_flat_map, Member_map, Member_of_flat_map, Member_of_map}
 use Rattle.lf_base.proofs.MovedRows.{differ_rows}
-use Rattle.lf_base.proofs.OwnersGoRound.{none_above, round_none}
+use Rattle.lf_base.proofs.OwnersGoRound.{owns_before, round_before}
 use Rattle.lf_base.proofs.Quiet.{lead_near}
 use Rattle.lf_base.proofs.Sets.{Member_left, Member_of_append, Member_right}
 use Rattle.lf_base.proofs.WriteLaw.{mutable_at}
@@ -64,20 +63,11 @@ module _ (s : State) (slots : List (Option Value)) (rows : List Row) (t : WellFo
   from_same q (Field p) = ap (is_in q) (k.same_owners p)
   from_same q (Content c) = refl
 
-  owns_before : (q r : ObjId) → owns after q r ≡ true → owns s q r ≡ true
-  owns_before q r e =
-      let a = and_parts (not (same_name q r)) _ e in
-      let b = and_parts (is_bridge rows r) _ a.1 in
-      let x = any_Member (λ (d : Edge). is_from rows q d.from && same_name d.to r) (edges after) b.1 in
-      let p = and_parts (is_from rows q (x.0).from) (same_name (x.0).to r) x.1.1 in
-      and_join _ _ a.0 (and_join _ _ (ap (is_in r) (sym (k.same_owners r)) ∙ b.0) (elim (k.old_or_slot x.0 x.1.0) [
-        | inl m ↦ Member_any (λ (d : Edge). is_from s.rows q d.from && same_name d.to r) x.0 (edges s) m (and_join _ _ (sym (from_same q (x.0).from) ∙ p.0) p.1)
-        | inr m ↦ absurd (from_slot q (x.0).from m.0 p.0)
-      ]))
-
-  above_before : {q r : ObjId} → Above after q r → Above s q r
-  above_before (direct {q} {r} e) = direct (owns_before q r e)
-  above_before (step {q} {p} e a) = step (owns_before q p e) (above_before a)
+  owns_old : (q r : ObjId) → owns after q r ≡ true → owns s q r ≡ true
+  owns_old q r = owns_before s after q r (λ e m f n b. elim (k.old_or_slot e m) [
+    | inl o ↦ (o, (sym (from_same q e.from) ∙ f, ap (is_in r) (sym (k.same_owners r)) ∙ b))
+    | inr o ↦ absurd (from_slot q e.from o.0 f)
+  ])
 
   differ_after : Differ same_name (names rows ++ (names s.given ++ names s.own))
   differ_after = subst (λ l. Differ same_name (l ++ (names s.given ++ names s.own))) (sym k.same_names) t.names_differ
@@ -94,7 +84,7 @@ module _ (s : State) (slots : List (Option Value)) (rows : List Row) (t : WellFo
     bridge = λ o r h. k.same_owners r ∙ t.bridge o r (sym (k.same_owners o) ∙ h);
     leads = leads_after;
     one_owner = λ r b. let one = t.one_owner r (ap (is_in r) (sym (k.same_owners r)) ∙ b) in omega (arith, one, k.fewer_owning r);
-    no_round = round_none after (λ r a. none_above s t.no_round r (above_before a));
+    no_round = round_before s after owns_old t.no_round;
     objects_numbered = λ o m. t.objects_numbered o (subst (λ l. Member o (l ++ (names s.given ++ names s.own))) k.same_names m);
     cowns_numbered = k.cowns;
     cowns_differ = t.cowns_differ;

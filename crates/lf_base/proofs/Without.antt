@@ -1,14 +1,14 @@
 -- Rows that go, and what stays and is watched then.
-use Rattle.std.proofs.Common.{Bool, List, None, Option, Some, [], ap, cond, false, inl, inr, length, map, not, refl, subst, sym, true, ◌&&◌, ◌++◌, ◌||◌, ◌∙◌, ◌∷◌, ◌≡◌, ◌⊎◌}
-use Rattle.std.specs.List.{filter, list_any}
+use Rattle.std.proofs.Common.{Bool, List, None, Option, Some, [], ap, cond, false, inl, inr, length, not, refl, subst, sym, true, ◌&&◌, ◌++◌, ◌||◌, ◌∙◌, ◌∷◌, ◌≡◌, ◌⊎◌}
+use Rattle.std.specs.List.{filter}
 use Rattle.lf_base.specs.declared.ids.ObjId.{ObjId}
 use Rattle.lf_base.specs.declared.values.Owner.{Owner}
 use Rattle.lf_base.specs.declared.values.Owner.TheVariants.{Frozen, In, Local}
 use Rattle.lf_base.specs.Edges.{Content, Edge, Field, Slot, Source, content_edges, edges, row_edges, rows_edges, slot_edges}
 use Rattle.lf_base.specs.Kept.{is_owned_by, kept_rows, points, points_into, stays, stays_by_owner}
 use Rattle.lf_base.specs.Names.{same_name}
-use Rattle.lf_base.specs.Owners.{bridges, has_row, is_bridge, is_in, is_local_at, or_frozen, owner_in, row_at, row_owner}
-use Rattle.lf_base.specs.Ownership.{is_from, is_in_other, is_owning, owns, round}
+use Rattle.lf_base.specs.Owners.{has_row, is_in, is_local_at, or_frozen, owner_in, row_at, row_owner}
+use Rattle.lf_base.specs.Ownership.{is_in_other, is_owning, round}
 use Rattle.lf_base.specs.PlainState.{Row, State}
 use Rattle.lf_base.specs.Sets.{Member}
 use Rattle.lf_base.specs.Settling.{CanGo, Idle, Renewed, Run, Spent, Watched, WatchedBy, Watches, drop, finish, forget, without}
@@ -16,12 +16,13 @@ use Rattle.lf_base.specs.Suspects.{AllHang, Bare, Object, Region, Suspect}
 use Rattle.lf_base.specs.WalkCounts.{is_borrower}
 use Rattle.lf_base.specs.WellFormed.{from_content, from_near, from_row, may_lead}
 use Rattle.lf_base.proofs.Counts.{Distinct}
-use Rattle.lf_base.proofs.Dropped.{and_join, and_parts, any_weaker, mem_has, not_false, or_map, sub_filter, sub_same, sub_shrink, sub_then, sub_within}
+use Rattle.lf_base.proofs.Dropped.{and_join, and_parts, any_weaker, mem_has, not_false, or_map, sub_filter, sub_same, sub_shrink, sub_then}
 use Rattle.lf_base.proofs.Hanging.{settled}
 use Rattle.lf_base.proofs.Lookup.{edge_row, kept_in, no_both, owner_there}
-use Rattle.lf_base.proofs.Members.{Member_map, Member_of_flat_map, Member_of_map, Within_append, Within_flat_map, any_more, or_true}
+use Rattle.lf_base.proofs.Members.{Member_of_flat_map, Member_of_map, Within_append, Within_flat_map, any_more, or_true}
 use Rattle.lf_base.proofs.Names.{same_name_is}
-use Rattle.lf_base.proofs.Sets.{Member_filter, Member_left, Member_of_append, Member_of_filter, Member_right, Within, greatest_has, greatest_meets}
+use Rattle.lf_base.proofs.OwnersGoRound.{owns_within, round_before}
+use Rattle.lf_base.proofs.Sets.{Member_filter, Member_left, Member_of_append, Member_of_filter, Member_right, Within}
 use Rattle.lf_base.proofs.Stays.{kept_has, kept_meets}
 use Rattle.lf_base.proofs.Watch.{Setting, false_by, field_is, hang_watched, not_true, or_left}
 
@@ -65,10 +66,6 @@ distinct_filter p (r ∷ rs) d = elim (p r) as (λ b. Distinct (cond b (r ∷ fi
   | true ↦ (has_less rs p r.name d.0, distinct_filter p rs d.1)
   | false ↦ distinct_filter p rs d.1
 ]
-
-pub within_nil : {X : Type 0} (xs : List X) → ((x : X) → Member x xs → ⊥) → xs ≡ []
-within_nil [] h = refl
-within_nil (x ∷ xs) h = absurd (h x (inl refl))
 
 module _ (s : State) (g : Setting s) (gone : ObjId → Bool) (c : CanGo s gone) where
   abbrev rest : State
@@ -228,31 +225,8 @@ module _ (s : State) (g : Setting s) (gone : ObjId → Bool) (c : CanGo s gone) 
     apart = λ o h. owner_stay s.rows gone o (frozen_left o h) ∙ g.apart o h;
   }
 
-  from_less : (q : ObjId) (f : Source) → is_from rest.rows q f ≡ true → is_from s.rows q f ≡ true
-  from_less q Slot e = e
-  from_less q (Field p) e = show (is_in q) refl s.rows gone p e
-  from_less q (Content k) e = e
-
-  owns_less : (q r : ObjId) → owns rest q r ≡ true → owns s q r ≡ true
-  owns_less q r e =
-      let a = and_parts (not (same_name q r)) _ e in
-      let b = and_parts (is_bridge rest.rows r) _ a.1 in
-      and_join _ _ a.0 (and_join _ _ (show (is_in r) refl s.rows gone r b.0)
-      (any_more (λ (d : Edge). is_from s.rows q d.from && same_name d.to r) (edges rest) (edges s) rest_edges
-      (any_weaker (λ (d : Edge). is_from rest.rows q d.from && same_name d.to r) (λ (d : Edge). is_from s.rows q d.from && same_name d.to r) (edges rest) (λ x m h. let k = and_parts _ _ h in and_join _ _ (from_less q x.from k.0) k.1) b.1)))
-
-  bridges_less : Within (bridges rest) (bridges s)
-  bridges_less q m =
-      let t = Member_of_filter (is_bridge rest.rows) q (map (λ r. r.name) rest.rows) m in
-      let u = Member_of_map (λ (r : Row). r.name) q rest.rows t.0 in
-      Member_filter (is_bridge s.rows) q (map (λ r. r.name) s.rows) (subst (λ n. Member n (map (λ r. r.name) s.rows)) u.1.1 (Member_map (λ (r : Row). r.name) u.0 s.rows (rest_rows u.0 u.1.0))) (show (is_in q) refl s.rows gone q t.1)
-
   pub round_without : round s ≡ [] → round rest ≡ []
-  round_without e = within_nil (round rest) (λ r m. subst (λ l. Member r l) e
-      (greatest_has (λ qs r. list_any (λ q. owns s q r) qs) (λ xs ys x v k. any_more (λ q. owns s q x) xs ys v k) (bridges s) (round rest)
-      (λ q k. any_weaker (λ p. owns rest p q) (λ p. owns s p q) (round rest) (λ p n h. owns_less p q h) (greatest_meets (λ qs r. list_any (λ q. owns rest q r) qs) (bridges rest) q k))
-      (λ q k. bridges_less q (sub_within (sub_shrink (λ qs r. list_any (λ q. owns rest q r) qs) (length (bridges rest)) (bridges rest)) q k))
-      r m))
+  round_without = round_before s rest (owns_within s rest rest_edges (λ q p e. show (is_in q) refl s.rows gone p e))
 
   -- ---- what is watched stays watched
   near_less : (o : ObjId) → points rest.rows rest o ≡ true → points s.rows s o ≡ true
