@@ -21,17 +21,38 @@ use Rattle.lf_base.proofs.Dropped.{Sub, and_join, and_parts, mem_has, row_of, su
 use Rattle.lf_base.proofs.Goes.{at_content, at_frozen, at_row, at_slot, begins, none_count}
 use Rattle.lf_base.proofs.InsertedRows.{Apart, all_inserted, all_order, append_assoc, differ_all, distinct_frozen, distinct_sub, has_all, has_append, has_frozen}
 use Rattle.lf_base.proofs.Lookup.{edge_row, named, no_both, owner_there}
-use Rattle.lf_base.proofs.Members.{Member_flat_map, Member_map, Member_of_flat_map, Member_of_map, Within_flat_map, any_more, or_true}
+use Rattle.lf_base.proofs.Members.{Member_flat_map, Member_map, Member_of_flat_map, Member_of_map, Within_append, Within_flat_map, any_more, or_true}
 use Rattle.lf_base.proofs.MovedRows.{differ_apart, differ_rows, has_names}
 use Rattle.lf_base.proofs.Names.{same_name_itself}
 use Rattle.lf_base.proofs.OwnersGoRound.{owns_within, round_before}
 use Rattle.lf_base.proofs.Paths.{freeze_closed, freeze_part, freeze_within, in_named}
 use Rattle.lf_base.proofs.SameOwners.{lead_there}
-use Rattle.lf_base.proofs.Sets.{Member_left, Member_of_append, Member_of_filter, Member_right}
+use Rattle.lf_base.proofs.Sets.{Member_left, Member_of_append, Member_of_filter, Member_right, Within}
 use Rattle.lf_base.proofs.Setting.{setting_of}
 use Rattle.lf_base.proofs.Sublists.{count_sub, differ_sub, name_below_trans, order_sub, sub_append, sub_flat_map, sub_map}
 use Rattle.lf_base.proofs.Watch.{false_by, field_is, not_true, or_left, or_no, same_row}
 use Rattle.lf_base.proofs.Without.{owner_lost, owner_old, owner_stay, show, some_none}
+
+-- what the parts of a state have in turn was there before, where some rows leave and become its own
+parts_within : {X : Type 0} (slots rows' rows held made given own' own : List X) → Within rows' rows → ((x : X) → Member x own' → Member x rows ⊎ Member x own)
+    → Within (slots ++ (rows' ++ (held ++ (made ++ (given ++ own'))))) (slots ++ (rows ++ (held ++ (made ++ (given ++ own)))))
+parts_within slots rows' rows held made given own' own left came =
+    Within_append slots slots (rows' ++ (held ++ (made ++ (given ++ own')))) (rows ++ (held ++ (made ++ (given ++ own)))) (λ x m. m) (λ x m. elim (Member_of_append x rows' (held ++ (made ++ (given ++ own'))) m) [
+      | inl k ↦ Member_left x rows _ (left x k)
+      | inr k ↦ elim (Member_of_append x held (made ++ (given ++ own')) k) [
+        | inl n ↦ Member_right x rows _ (Member_left x held _ n)
+        | inr n ↦ elim (Member_of_append x made (given ++ own') n) [
+          | inl q ↦ Member_right x rows _ (Member_right x held _ (Member_left x made _ q))
+          | inr q ↦ elim (Member_of_append x given own' q) [
+            | inl z ↦ Member_right x rows _ (Member_right x held _ (Member_right x made _ (Member_left x given own z)))
+            | inr z ↦ elim (came x z) [
+              | inl y ↦ Member_left x rows _ y
+              | inr y ↦ Member_right x rows _ (Member_right x held _ (Member_right x made _ (Member_right x given own y)))
+            ]
+          ]
+        ]
+      ]
+    ])
 
 module _ (s : State) (v : Value) (t : WellFormed s) where
   abbrev set : List Row
@@ -130,25 +151,8 @@ module _ (s : State) (v : Value) (t : WellFormed s) where
       ]
 
   edge_before : (e : Edge) → Member e (edges after) → Member e (edges s)
-  edge_before e m = elim (Member_of_append e (slot_edges s.slots) _ m) [
-    | inl k ↦ Member_left e (slot_edges s.slots) _ k
-    | inr k ↦ Member_right e (slot_edges s.slots) _ (elim (Member_of_append e (rows_edges rows) _ k) [
-      | inl n ↦ Member_left e (rows_edges s.rows) _ (Within_flat_map row_edges rows s.rows (sub_within rows_part) e n)
-      | inr n ↦ elim (Member_of_append e (content_edges s.held) _ n) [
-        | inl q ↦ Member_right e (rows_edges s.rows) _ (Member_left e (content_edges s.held) _ q)
-        | inr q ↦ elim (Member_of_append e (content_edges s.made) _ q) [
-          | inl z ↦ Member_right e (rows_edges s.rows) _ (Member_right e (content_edges s.held) _ (Member_left e (content_edges s.made) _ z))
-          | inr z ↦ elim (Member_of_append e (rows_edges s.given) (rows_edges own) z) [
-            | inl y ↦ Member_right e (rows_edges s.rows) _ (Member_right e (content_edges s.held) _ (Member_right e (content_edges s.made) _ (Member_left e (rows_edges s.given) _ y)))
-            | inr y ↦ elim (own_edge e y) [
-              | inl w ↦ Member_left e (rows_edges s.rows) _ w
-              | inr w ↦ Member_right e (rows_edges s.rows) _ (Member_right e (content_edges s.held) _ (Member_right e (content_edges s.made) _ (Member_right e (rows_edges s.given) (rows_edges s.own) w)))
-            ]
-          ]
-        ]
-      ]
-    ])
-  ]
+  edge_before = parts_within (slot_edges s.slots) (rows_edges rows) (rows_edges s.rows) (content_edges s.held) (content_edges s.made) (rows_edges s.given) (rows_edges own) (rows_edges s.own)
+      (Within_flat_map row_edges rows s.rows (sub_within rows_part)) own_edge
 
   in_set : (y : Row) → Member y s.rows → gone y.name ≡ true → Member y set
   in_set y m e = let x = named set y.name e in subst (λ z. Member z set) (same_row s.rows rows_distinct x.0 y (freeze_within s v x.0 x.1.0) m x.1.1) x.1.0
@@ -321,17 +325,16 @@ module _ (s : State) (v : Value) (t : WellFormed s) where
     ]
   ]
 
-  name_before : (o : ObjId) → Member o (all_names after) → Member o (all_names s)
-  name_before o m = elim (Member_of_append o (names rows) (names s.given ++ names own) m) [
-    | inl k ↦ Member_left o (names s.rows) _ (sub_within (sub_map (λ (r : Row). r.name) rows_part) o k)
-    | inr k ↦ elim (Member_of_append o (names s.given) (names own) k) [
-      | inl n ↦ Member_right o (names s.rows) _ (Member_left o (names s.given) (names s.own) n)
-      | inr n ↦ let x = Member_of_map (λ (r : Row). r.name) o own n in elim (own_row x.0 x.1.0) [
-        | inl y ↦ Member_left o (names s.rows) _ (subst (λ z. Member z (names s.rows)) (ap (λ (z : Row). z.name) y.1.1 ∙ x.1.1) (Member_map (λ (r : Row). r.name) y.0 s.rows y.1.0))
-        | inr h ↦ Member_right o (names s.rows) _ (Member_right o (names s.given) (names s.own) (subst (λ z. Member z (names s.own)) x.1.1 (Member_map (λ (r : Row). r.name) x.0 s.own h)))
+  own_name : (o : ObjId) → Member o (names own) → Member o (names s.rows) ⊎ Member o (names s.own)
+  own_name o m =
+      let x = Member_of_map (λ (r : Row). r.name) o own m in
+      elim (own_row x.0 x.1.0) [
+        | inl y ↦ inl (subst (λ z. Member z (names s.rows)) (ap (λ (z : Row). z.name) y.1.1 ∙ x.1.1) (Member_map (λ (r : Row). r.name) y.0 s.rows y.1.0))
+        | inr k ↦ inr (subst (λ z. Member z (names s.own)) x.1.1 (Member_map (λ (r : Row). r.name) x.0 s.own k))
       ]
-    ]
-  ]
+
+  name_before : (o : ObjId) → Member o (all_names after) → Member o (all_names s)
+  name_before = parts_within [] (names rows) (names s.rows) [] [] (names s.given) (names own) (names s.own) (sub_within (sub_map (λ (r : Row). r.name) rows_part)) own_name
 
   abbrev row_values : Row → List Value
   row_values r = map (λ (f : Key × Value). f.1) r.fields
@@ -345,25 +348,8 @@ module _ (s : State) (v : Value) (t : WellFormed s) where
       ]
 
   value_before : (w : Value) → Member w (all_values after) → Member w (all_values s)
-  value_before w m = elim (Member_of_append w (slot_values s.slots) _ m) [
-    | inl k ↦ Member_left w (slot_values s.slots) _ k
-    | inr k ↦ Member_right w (slot_values s.slots) _ (elim (Member_of_append w (field_values rows) _ k) [
-      | inl n ↦ Member_left w (field_values s.rows) _ (Within_flat_map row_values rows s.rows (sub_within rows_part) w n)
-      | inr n ↦ elim (Member_of_append w (content_values s.held) _ n) [
-        | inl q ↦ Member_right w (field_values s.rows) _ (Member_left w (content_values s.held) _ q)
-        | inr q ↦ elim (Member_of_append w (content_values s.made) _ q) [
-          | inl z ↦ Member_right w (field_values s.rows) _ (Member_right w (content_values s.held) _ (Member_left w (content_values s.made) _ z))
-          | inr z ↦ elim (Member_of_append w (field_values s.given) (field_values own) z) [
-            | inl y ↦ Member_right w (field_values s.rows) _ (Member_right w (content_values s.held) _ (Member_right w (content_values s.made) _ (Member_left w (field_values s.given) _ y)))
-            | inr y ↦ elim (own_value w y) [
-              | inl h ↦ Member_left w (field_values s.rows) _ h
-              | inr h ↦ Member_right w (field_values s.rows) _ (Member_right w (content_values s.held) _ (Member_right w (content_values s.made) _ (Member_right w (field_values s.given) (field_values s.own) h)))
-            ]
-          ]
-        ]
-      ]
-    ])
-  ]
+  value_before = parts_within (slot_values s.slots) (field_values rows) (field_values s.rows) (content_values s.held) (content_values s.made) (field_values s.given) (field_values own) (field_values s.own)
+      (Within_flat_map row_values rows s.rows (sub_within rows_part)) own_value
 
   cown_before : (c : CownId) → Member c (all_cowns after) → Member c (all_cowns s)
   cown_before c m = elim (Member_of_append c (own_cowns s) (flat_map cowns_of_value (all_values after)) m) [
