@@ -13,6 +13,10 @@ use Rattle.lf_parser.proofs.Good as good
 abbrev pub Shortens : {S : Type 0} → (S → Parser S) → Type 0
 Shortens {S} step = (s t : S) (ts r : List Token) → step s ts ≡ Ok t r → length r < length ts
 
+-- all that is read is one step where the next token goes on, and then all again
+abbrev pub Turns : {S : Type 0} → (Option Token → Bool) → (S → Parser S) → (S → Parser S) → Type 0
+Turns {S} goes step all = (s : S) (ts : List Token) → all s ts ≡ loop_at step all s (goes (head ts)) ts
+
 module _ {St : Type 0} (goes : Option Token → Bool) (step : St → Parser St) (short : Shortens step) where
   enough_after : (n m : ℕ) → ((t : St) (r : List Token) → length r < n → length r < m → loop goes step n t r ≡ loop goes step m t r) → (s : St) (ts : List Token) → length ts < suc n → length ts < suc m → (o : Read St) → step s ts ≡ o → after o (loop goes step n) ≡ after o (loop goes step m)
   enough_after n m go s ts h k (Err c r) e = refl
@@ -28,7 +32,7 @@ module _ {St : Type 0} (goes : Option Token → Bool) (step : St → Parser St) 
   enough (suc n) (suc m) s ts h k = enough_at n m (enough n m) s ts h k (goes (head ts))
 
   -- one step, and then the others
-  pub unrolled : (s : St) (ts : List Token) → many goes step s ts ≡ loop_at step (many goes step) s (goes (head ts)) ts
+  pub unrolled : Turns goes step (many goes step)
   unfolding many
   unrolled s ts = at_bool (goes (head ts))
     where

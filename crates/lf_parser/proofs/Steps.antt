@@ -1,9 +1,12 @@
--- Each step of a loop takes a token.
+-- Each step of a loop takes a token, so that a loop is one step and then the others.
 use Rattle.std.proofs.Common.{◌≡◌, ℕ, zero, suc, ◌+◌, ◌<◌, ◌≤◌, List, length, Option, Some, refl, ap, ◌∙◌, subst, arith, length-append}
 use Rattle.lf_lexer.specs.declared.tokens.Token.{Token}
 use Rattle.lf_parser.specs.declared.halt.Cause.{Cause}
 use Rattle.lf_parser.specs.declared.halt.Cause.TheVariants.{Unexpected, TooDeep, TooMany}
 use Rattle.lf_parser.specs.Kinds.{kind}
+use Rattle.lf_lexer.specs.declared.tokens.Mark.TheVariants as mark
+use Rattle.lf_parser.specs.declared.grammar.Level.TheVariants as level
+use Rattle.lf_parser.specs.Words.{joins}
 use Rattle.lf_parser.specs.Forms.{Form}
 use Rattle.lf_parser.specs.Parsers.{Read, Ok, Err, Parser, after}
 use Rattle.lf_parser.specs.Reading.{levels_left, sixteen}
@@ -11,7 +14,7 @@ use Rattle.lf_parser.specs.Reading as read
 use Rattle.lf_parser.specs.Refusals.{BelowSixteen}
 use Rattle.lf_parser.proofs.Good.{Family, Setting, Good, Part}
 use Rattle.lf_parser.proofs.Tokens.{Guard}
-use Rattle.lf_parser.proofs.Loops.{Shortens}
+use Rattle.lf_parser.proofs.Loops.{Shortens, Turns, unrolled}
 use Rattle.lf_parser.proofs.Samples.{one, longer}
 use Rattle.lf_parser.proofs.ExpressionRules.{Deep, part_suffix, proper_suffix, part_more_arg, part_times, part_plus, part_and, part_or, part_more_name}
 use Rattle.lf_parser.proofs.StatementRules.{part_more_stmt, proper_stmt}
@@ -93,3 +96,40 @@ pub item_short : (n : ℕ) → Shortens (read.item sixteen 32 64 n)
 item_short n s t ts r e =
     takes_some (part_item g fits none_reached Room sixteen sixteen 64 64 32 32 limits n n (omega arith) (λ h. refl) s)
     (λ a xs h. proper_item g fits none_reached Room sixteen sixteen 64 64 32 32 limits n n (omega arith) (λ h. refl) s a xs h) t ts r e
+
+-- ---- the turns of each loop
+pub suffix_turns : (n : ℕ) → Turns read.at_suffix (read.suffix sixteen (levels_left sixteen n)) (read.suffixes sixteen (levels_left sixteen n))
+unfolding read.suffixes
+suffix_turns n = unrolled read.at_suffix (read.suffix sixteen (levels_left sixteen n)) (suffix_short n)
+
+pub more_arg_turns : (n : ℕ) → Turns (read.at_mark mark.Comma) (read.more_arg sixteen (levels_left sixteen n)) (read.args_from sixteen (levels_left sixteen n))
+unfolding read.args_from
+more_arg_turns n = unrolled (read.at_mark mark.Comma) (read.more_arg sixteen (levels_left sixteen n)) (more_arg_short n)
+
+pub times_turns : (n : ℕ) → Turns (joins level.Term) (read.times sixteen (levels_left sixteen n)) (read.term_rest sixteen (levels_left sixteen n))
+unfolding read.term_rest
+times_turns n = unrolled (joins level.Term) (read.times sixteen (levels_left sixteen n)) (times_short n)
+
+pub plus_turns : (n : ℕ) → Turns (joins level.Sum) (read.plus sixteen (levels_left sixteen n)) (read.sum_rest sixteen (levels_left sixteen n))
+unfolding read.sum_rest
+plus_turns n = unrolled (joins level.Sum) (read.plus sixteen (levels_left sixteen n)) (plus_short n)
+
+pub and_turns : (n : ℕ) → Turns (read.at_mark mark.And) (read.and_neg sixteen (levels_left sixteen n)) (read.both_rest sixteen (levels_left sixteen n))
+unfolding read.both_rest
+and_turns n = unrolled (read.at_mark mark.And) (read.and_neg sixteen (levels_left sixteen n)) (and_short n)
+
+pub or_turns : (n : ℕ) → Turns (read.at_mark mark.Or) (read.or_both sixteen (levels_left sixteen n)) (read.expr_rest sixteen (levels_left sixteen n))
+unfolding read.expr_rest
+or_turns n = unrolled (read.at_mark mark.Or) (read.or_both sixteen (levels_left sixteen n)) (or_short n)
+
+pub more_name_turns : Turns (read.at_mark mark.Comma) (read.more_name sixteen) (read.names_from sixteen)
+unfolding read.names_from
+more_name_turns = unrolled (read.at_mark mark.Comma) (read.more_name sixteen) more_name_short
+
+pub more_stmt_turns : (n : ℕ) → Turns read.in_block (read.more_stmt sixteen 32 64 (read.blocks sixteen 32 64 n)) (read.stmts sixteen 32 64 (read.blocks sixteen 32 64 n))
+unfolding read.stmts
+more_stmt_turns n = unrolled read.in_block (read.more_stmt sixteen 32 64 (read.blocks sixteen 32 64 n)) (more_stmt_short n)
+
+pub item_turns : (n : ℕ) → Turns read.before_end (read.item sixteen 32 64 n) (read.items_from sixteen 32 64 n)
+unfolding read.items_from
+item_turns n = unrolled read.before_end (read.item sixteen 32 64 n) (item_short n)

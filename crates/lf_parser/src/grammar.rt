@@ -120,7 +120,7 @@ impl<F: Fn(Global, &mut Cursor<'_>, usize, Entry) -> Result<Expr, Halt>> Grammar
     }
 
     /// All suffixes behind an operand.
-    #[tactic(auto)]
+    #[tactic(auto, using(crate::proofs::Steps::suffix_turns, crate::proofs::Steps::suffix_short))]
     pub fn suffixes(&self, cursor: &mut Cursor<'_>, first: Expr) -> Result<Expr, Halt>
         requires { Nests (F.pre self.now.deeper) (F.post self.now.deeper) self.now.levels }
         ensures { Reads plain_expr (spec.suffixes sixteen (levels_left sixteen self.now.levels) (plain_expr first) cursor.old) result cursor.new }
@@ -152,7 +152,7 @@ impl<F: Fn(Global, &mut Cursor<'_>, usize, Entry) -> Result<Expr, Halt>> Grammar
         with(args, arg)
     }
 
-    #[tactic(auto)]
+    #[tactic(auto, using(crate::proofs::Steps::more_arg_turns, crate::proofs::Steps::more_arg_short))]
     fn args_from(&self, cursor: &mut Cursor<'_>, first: Exprs) -> Result<Exprs, Halt>
         requires { Nests (F.pre self.now.deeper) (F.post self.now.deeper) self.now.levels }
         ensures { Reads (map plain_expr) (spec.args_from sixteen (levels_left sixteen self.now.levels) (map plain_expr first) cursor.old) result cursor.new }
@@ -317,7 +317,7 @@ impl<F: Fn(Global, &mut Cursor<'_>, usize, Entry) -> Result<Expr, Halt>> Grammar
         Ok(binary(self.alloc, op, left, right)?)
     }
 
-    #[tactic(auto)]
+    #[tactic(auto, using(crate::proofs::Steps::times_turns, crate::proofs::Steps::times_short))]
     fn term_rest(&self, cursor: &mut Cursor<'_>, first: Expr) -> Result<Expr, Halt>
         requires { Nests (F.pre self.now.deeper) (F.post self.now.deeper) self.now.levels }
         ensures { Reads plain_expr (spec.term_rest sixteen (levels_left sixteen self.now.levels) (plain_expr first) cursor.old) result cursor.new }
@@ -348,7 +348,7 @@ impl<F: Fn(Global, &mut Cursor<'_>, usize, Entry) -> Result<Expr, Halt>> Grammar
         Ok(binary(self.alloc, op, left, right)?)
     }
 
-    #[tactic(auto)]
+    #[tactic(auto, using(crate::proofs::Steps::plus_turns, crate::proofs::Steps::plus_short))]
     fn sum_rest(&self, cursor: &mut Cursor<'_>, first: Expr) -> Result<Expr, Halt>
         requires { Nests (F.pre self.now.deeper) (F.post self.now.deeper) self.now.levels }
         ensures { Reads plain_expr (spec.sum_rest sixteen (levels_left sixteen self.now.levels) (plain_expr first) cursor.old) result cursor.new }
@@ -430,7 +430,7 @@ impl<F: Fn(Global, &mut Cursor<'_>, usize, Entry) -> Result<Expr, Halt>> Grammar
         Ok(and(self.alloc, left, right)?)
     }
 
-    #[tactic(auto)]
+    #[tactic(auto, using(crate::proofs::Steps::and_turns, crate::proofs::Steps::and_short))]
     fn both_rest(&self, cursor: &mut Cursor<'_>, first: Expr) -> Result<Expr, Halt>
         requires { Nests (F.pre self.now.deeper) (F.post self.now.deeper) self.now.levels }
         ensures { Reads plain_expr (spec.both_rest sixteen (levels_left sixteen self.now.levels) (plain_expr first) cursor.old) result cursor.new }
@@ -461,7 +461,7 @@ impl<F: Fn(Global, &mut Cursor<'_>, usize, Entry) -> Result<Expr, Halt>> Grammar
         Ok(or(self.alloc, left, right)?)
     }
 
-    #[tactic(auto)]
+    #[tactic(auto, using(crate::proofs::Steps::or_turns, crate::proofs::Steps::or_short))]
     pub fn expr_rest(&self, cursor: &mut Cursor<'_>, first: Expr) -> Result<Expr, Halt>
         requires { Nests (F.pre self.now.deeper) (F.post self.now.deeper) self.now.levels }
         ensures { Reads plain_expr (spec.expr_rest sixteen (levels_left sixteen self.now.levels) (plain_expr first) cursor.old) result cursor.new }

@@ -20,6 +20,7 @@ fn more_name(cursor: &mut Cursor<'_>, names: Names) -> Result<Names, Halt>
     with(names, name)
 }
 
+#[tactic(auto, using(crate::proofs::Steps::more_name_turns, crate::proofs::Steps::more_name_short))]
 fn names_from(cursor: &mut Cursor<'_>, first: Names) -> Result<Names, Halt>
     ensures { Reads (λ xs. xs) (spec.names_from sixteen first cursor.old) result cursor.new }
 {

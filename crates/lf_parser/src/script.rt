@@ -88,7 +88,7 @@ impl<F: Fn(Global, &mut Cursor<'_>, usize) -> Result<Block, Halt>> Statements<F>
     }
 
     /// Functions and statements up to the end of the script.
-    #[tactic(auto)]
+    #[tactic(auto, using(crate::proofs::Steps::item_turns, crate::proofs::Steps::item_short))]
     fn items_from(&self, cursor: &mut Cursor<'_>, first: Tree) -> Result<Tree, Halt>
         requires { ReadsBlocks (F.pre self.now.deeper) (F.post self.now.deeper) self.now.nest }
         ensures { Reads items_of (spec.items_from sixteen 32 64 self.now.nest (items_of first) cursor.old) result cursor.new }

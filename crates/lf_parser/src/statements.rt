@@ -336,7 +336,7 @@ impl<F: Fn(Global, &mut Cursor<'_>, usize) -> Result<Block, Halt>> Statements<F>
     }
 
     /// Statements up to the end of their block.
-    #[tactic(auto)]
+    #[tactic(auto, using(crate::proofs::Steps::more_stmt_turns))]
     fn stmts(&self, cursor: &mut Cursor<'_>, first: Block) -> Result<Block, Halt>
         requires { ReadsBlocks (F.pre self.now.deeper) (F.post self.now.deeper) self.now.nest }
         ensures { Reads (map plain_stmt) (spec.stmts sixteen 32 64 (blocks sixteen 32 64 self.now.nest) (map plain_stmt first) cursor.old) result cursor.new }
