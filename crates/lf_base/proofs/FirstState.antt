@@ -18,12 +18,13 @@ use Rattle.lf_base.proofs.Lookup.{edge_row}
 use Rattle.lf_base.proofs.Members.{Within_flat_map}
 use Rattle.lf_base.proofs.Names.{same_name_is}
 use Rattle.lf_base.proofs.Sets.{Member_of_append}
-use Rattle.lf_base.proofs.Sublists.{name_below_is, name_below_trans, order_all, order_tail}
+use Rattle.lf_base.proofs.PairOrder.{pair_below}
+use Rattle.lf_base.proofs.Sublists.{name_below_trans, order_all, order_tail}
 use Rattle.lf_base.proofs.Watch.{false_by}
 use Rattle.lf_base.proofs.Without.{some_none}
 
 not_below : (a : ObjId) → name_below a a ≡ true → ⊥
-not_below a e = elim (name_below_is a a e) [ inl h ↦ omega (arith, h) | inr h ↦ omega (arith, h.1) ]
+not_below a e = elim (pair_below a.birth a.birth a.seq a.seq e) [ inl h ↦ omega (arith, h) | inr h ↦ omega (arith, h.1) ]
 
 -- names in order differ
 order_differ : (os : List ObjId) → InOrder name_below os → Differ same_name os

@@ -19,7 +19,8 @@ use Rattle.lf_base.proofs.Members.{Member_map, Member_of_map, any_more, or_true}
 use Rattle.lf_base.proofs.MovedRows.{has_names}
 use Rattle.lf_base.proofs.Names.{Decides-same_name, same_name_is, same_name_itself}
 use Rattle.lf_base.proofs.Sets.{Member_left, Member_of_append, Member_right}
-use Rattle.lf_base.proofs.Sublists.{is_name_below, name_below_trans, order_all, order_cons, order_tail}
+use Rattle.lf_base.proofs.PairOrder.{is_pair_below}
+use Rattle.lf_base.proofs.Sublists.{name_below_trans, order_all, order_cons, order_tail}
 use Rattle.lf_base.proofs.Watch.{false_by, or_left, or_no}
 
 -- ---- one row
@@ -88,8 +89,8 @@ trichotomy a b x y n d = elim (which a b) [
 ]
 
 pub other_below : (a b : ObjId) → name_below a b ≡ false → same_name a b ≡ false → name_below b a ≡ true
-other_below a b n d = is_name_below b a (trichotomy a.birth b.birth a.seq b.seq
-    (λ h. no_both _ (is_name_below a b h) n)
+other_below a b n d = is_pair_below b.birth a.birth b.seq a.seq (trichotomy a.birth b.birth a.seq b.seq
+    (λ h. no_both _ (is_pair_below a.birth b.birth a.seq b.seq h) n)
     (λ e k. no_both _ ((Decides-same_name a b).1 (λ i. record { birth = e i; seq = k i })) d))
 
 pub inserted_order : (x : Row) (rows : List Row) → has_row rows x.name ≡ false → InOrder name_below (names rows) → InOrder name_below (names (insert_row x rows))

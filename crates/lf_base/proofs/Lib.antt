@@ -29,6 +29,7 @@ pub mod NewRows
 pub mod OwnersAfterWrite
 pub mod OwnersGoRound
 pub mod Owning
+pub mod PairOrder
 pub mod Paths
 pub mod Quiet
 pub mod RegionMoves

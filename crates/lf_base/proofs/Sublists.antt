@@ -1,16 +1,15 @@
 -- Parts of a list in order: what they keep of order, difference and counts.
-use Rattle.std.proofs.Common.{Bool, List, [], ap, arith, cond, eqb, false, inl, inr, map, refl, sym, true, ℕ, ◌&&◌, ◌++◌, ◌<◌, ◌||◌, ◌∙◌, ◌∷◌, ◌≡◌, ◌≤◌, ◌⊎◌}
-use Rattle.std.proofs.lemmas.Bool.Decides.{Decides-eqb, Decides-ltb}
+use Rattle.std.proofs.Common.{Bool, List, [], ap, arith, cond, false, inl, inr, map, refl, sym, true, ℕ, ◌++◌, ◌<◌, ◌∙◌, ◌∷◌, ◌≡◌, ◌≤◌, ◌⊎◌}
 use Rattle.std.proofs.lemmas.List.Sums.{sum_by-cons}
 use Rattle.std.specs.List.{count_by, flat_map}
-use Rattle.std.specs.Prelude.{ltb}
 use Rattle.lf_base.specs.declared.ids.ObjId.{ObjId}
 use Rattle.lf_base.specs.Names.{name_below}
 use Rattle.lf_base.specs.Sets.{Differ, InOrder, Member}
-use Rattle.lf_base.proofs.Dropped.{Sub, and_join, and_parts, none, pass, sub_all, sub_within, take}
+use Rattle.lf_base.proofs.Dropped.{Sub, none, pass, sub_all, sub_within, take}
 use Rattle.lf_base.proofs.Lookup.{no_both}
-use Rattle.lf_base.proofs.Members.{any_more, or_true}
-use Rattle.lf_base.proofs.Watch.{false_by, or_left, or_split}
+use Rattle.lf_base.proofs.Members.{any_more}
+use Rattle.lf_base.proofs.PairOrder.{is_pair_below, pair_below}
+use Rattle.lf_base.proofs.Watch.{false_by}
 
 pub sub_map : {X Y : Type 0} (f : X → Y) {xs ys : List X} → Sub xs ys → Sub (map f xs) (map f ys)
 sub_map f none = none
@@ -51,16 +50,6 @@ module _ {X : Type 0} (before : X → X → Bool) (trans : (x y z : X) → befor
   order_sub (take {x} {xs = us} {ys = vs} p) o = order_cons x us (λ y m. order_all x vs o y (sub_within p y m)) (order_sub p (order_tail x vs o))
   order_sub (pass {x} {ys = vs} p) o = order_sub p (order_tail x vs o)
 
-pub name_below_is : (a b : ObjId) → name_below a b ≡ true → (a.birth < b.birth) ⊎ ((a.birth ≡ b.birth) × (a.seq < b.seq))
-name_below_is a b e = elim (or_split (ltb a.birth b.birth) (eqb a.birth b.birth && ltb a.seq b.seq) e) [
-  | inl h ↦ inl ((Decides-ltb a.birth b.birth).0 h)
-  | inr h ↦ let p = and_parts (eqb a.birth b.birth) (ltb a.seq b.seq) h in inr ((Decides-eqb a.birth b.birth).0 p.0, (Decides-ltb a.seq b.seq).0 p.1)
-]
-
-pub is_name_below : (a b : ObjId) → (a.birth < b.birth) ⊎ ((a.birth ≡ b.birth) × (a.seq < b.seq)) → name_below a b ≡ true
-is_name_below a b (inl h) = or_left _ _ ((Decides-ltb a.birth b.birth).1 h)
-is_name_below a b (inr h) = ap (λ c. ltb a.birth b.birth || c) (and_join _ _ ((Decides-eqb a.birth b.birth).1 h.0) ((Decides-ltb a.seq b.seq).1 h.1)) ∙ or_true _
-
 chain : (a b c x y z : ℕ) → (a < b) ⊎ ((a ≡ b) × (x < y)) → (b < c) ⊎ ((b ≡ c) × (y < z)) → (a < c) ⊎ ((a ≡ c) × (x < z))
 chain a b c x y z (inl h) (inl k) = inl (omega (arith, h, k))
 chain a b c x y z (inl h) (inr k) = inl (omega (arith, h, k.0))
@@ -68,7 +57,7 @@ chain a b c x y z (inr h) (inl k) = inl (omega (arith, h.0, k))
 chain a b c x y z (inr h) (inr k) = inr (h.0 ∙ k.0, omega (arith, h.1, k.1))
 
 pub name_below_trans : (a b c : ObjId) → name_below a b ≡ true → name_below b c ≡ true → name_below a c ≡ true
-name_below_trans a b c h k = is_name_below a c (chain a.birth b.birth c.birth a.seq b.seq c.seq (name_below_is a b h) (name_below_is b c k))
+name_below_trans a b c h k = is_pair_below a.birth c.birth a.seq c.seq (chain a.birth b.birth c.birth a.seq b.seq c.seq (pair_below a.birth b.birth a.seq b.seq h) (pair_below b.birth c.birth b.seq c.seq k))
 
 -- ---- difference
 pub differ_sub : {X : Type 0} (same : X → X → Bool) {xs ys : List X} → Sub xs ys → Differ same ys → Differ same xs

@@ -1,13 +1,12 @@
 -- The names of a script's tree rise as their tokens do.
 use Rattle.std.proofs.Common.{◌≡◌, ℕ, ◌+◌, ◌-◌, ◌<◌, ◌≤◌, List, Some, true, refl, sym, ap, ◌∙◌, subst, arith, ◌⊎◌, inl, inr}
-use Rattle.std.specs.Prelude.{ltb, eqb, ◌||◌, ◌&&◌}
-use Rattle.std.proofs.lemmas.Bool.Decides.{Decides-eqb, Decides-ltb}
+use Rattle.std.specs.Prelude.{eqb}
+use Rattle.std.proofs.lemmas.Bool.Decides.{Decides-eqb}
 use Rattle.lf_base.specs.declared.refusals.Place.{Place}
 use Rattle.lf_base.specs.Sets.{Member}
 use Rattle.lf_base.specs.Texts.{Text}
-use Rattle.lf_base.proofs.Dropped.{and_join, and_parts}
-use Rattle.lf_base.proofs.Members.{or_true}
-use Rattle.lf_base.proofs.Watch.{or_left, or_split}
+use Rattle.lf_base.proofs.Dropped.{and_parts}
+use Rattle.lf_base.proofs.PairOrder.{is_pair_below, pair_below}
 use Rattle.lf_lexer.specs.declared.tokens.Lexeme.{Lexeme}
 use Rattle.lf_lexer.specs.declared.tokens.Lexeme.TheVariants as lexeme
 use Rattle.lf_lexer.specs.declared.tokens.Token.{Token}
@@ -30,16 +29,6 @@ use Rattle.lf_parser.proofs.Spreads.{script_spread}
 use Rattle.lf_parser.proofs.Risings.{first_part, second_part, count_of_both, rising_part, once_in, brought_part}
 use Rattle.lf_parser.proofs.StatementNames.{stmts_names_last, blocks_add, stmt_adds, def_adds}
 
-pub place_before_is : (a b : Place) → place_before a b ≡ true → (a.line < b.line) ⊎ ((a.line ≡ b.line) × (a.column < b.column))
-place_before_is a b e = elim (or_split (ltb a.line b.line) (eqb a.line b.line && ltb a.column b.column) e) [
-  | inl h ↦ inl ((Decides-ltb a.line b.line).0 h)
-  | inr h ↦ let p = and_parts (eqb a.line b.line) (ltb a.column b.column) h in inr ((Decides-eqb a.line b.line).0 p.0, (Decides-ltb a.column b.column).0 p.1)
-]
-
-pub is_place_before : (a b : Place) → (a.line < b.line) ⊎ ((a.line ≡ b.line) × (a.column < b.column)) → place_before a b ≡ true
-is_place_before a b (inl h) = or_left _ _ ((Decides-ltb a.line b.line).1 h)
-is_place_before a b (inr h) = ap (λ c. ltb a.line b.line || c) (and_join _ _ ((Decides-eqb a.line b.line).1 h.0) ((Decides-ltb a.column b.column).1 h.1)) ∙ or_true _
-
 pub same_place_is : (a b : Place) → same_place a b ≡ true → (a.line ≡ b.line) × (a.column ≡ b.column)
 same_place_is a b e = let p = and_parts (eqb a.line b.line) (eqb a.column b.column) e in ((Decides-eqb a.line b.line).0 p.0, (Decides-eqb a.column b.column).0 p.1)
 
@@ -48,7 +37,7 @@ apart : (place : Place) (x y : Name) → stands_at place x ≡ true → stands_a
 apart place x y h k e =
     let a = same_place_is place x.place h in
     let b = same_place_is place y.place k in
-    never (place_before_is x.place y.place e) (sym a.0 ∙ b.0) (sym a.1 ∙ b.1)
+    never (pair_below x.place.line y.place.line x.place.column y.place.column e) (sym a.0 ∙ b.0) (sym a.1 ∙ b.1)
   where
     never : (x.place.line < y.place.line) ⊎ ((x.place.line ≡ y.place.line) × (x.place.column < y.place.column)) → x.place.line ≡ y.place.line → x.place.column ≡ y.place.column → ⊥
     never (inl lt) l c = omega arith
@@ -80,8 +69,8 @@ at_least (here {name} {names} {t} {tokens} e s) l c b o y (inr m) =
     (at_or_behind t.place.line t.place.column t.place.line (t.place.column + (t.end - t.start)) y.place (inr (refl, omega arith)) (at_least s _ _ _ o.1 y m))
 
 behind_place : (t : Token) (place : Place) → t.start < t.end → AtOrBehind t.place.line (t.place.column + (t.end - t.start)) place → place_before t.place place ≡ true
-behind_place t place lt (inl h) = is_place_before t.place place (inl h)
-behind_place t place lt (inr h) = is_place_before t.place place (inr (h.0, (let k = h.1 in omega arith)))
+behind_place t place lt (inl h) = is_pair_below t.place.line place.line t.place.column place.column (inl h)
+behind_place t place lt (inr h) = is_pair_below t.place.line place.line t.place.column place.column (inr (h.0, (let k = h.1 in omega arith)))
 
 pub names_rise : {names : List Name} {tokens : List Token} → Stand names tokens → (l c b : ℕ) → InOrder l c b tokens → Rising stands_before names
 names_rise nowhere l c b o = tt
