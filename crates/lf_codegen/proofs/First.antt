@@ -1,9 +1,10 @@
 -- The refusal that is kept is the first of those that were noted.
-use Rattle.std.proofs.Common.{◌≡◌, ◌<◌, ◌≤◌, ◌⊎◌, true, false, cond, ◌||◌, ◌&&◌, eqb, ltb, List, [], ◌∷◌, Some, None, refl, sym, subst, ◌∙◌, inl, inr, arith}
-use Rattle.std.proofs.lemmas.Bool.{eq-eqb, eqb-true, ltb-true, ltb-false}
+use Rattle.std.proofs.Common.{◌≡◌, ◌<◌, ◌≤◌, ◌⊎◌, true, false, cond, List, [], ◌∷◌, Some, None, refl, sym, subst, ◌∙◌, inl, inr, arith}
 use Rattle.lf_base.specs.declared.refusals.Place.{Place}
 use Rattle.lf_base.specs.declared.refusals.Refusal.{Refusal}
 use Rattle.lf_base.specs.Sets.{Member}
+use Rattle.lf_base.proofs.PairOrder.{not_pair_below, pair_below}
+use Rattle.lf_base.proofs.Watch.{false_by}
 use Rattle.lf_codegen.specs.Earliest.{earliest}
 use Rattle.lf_parser.specs.TreeNames.{place_before}
 use Rattle.lf_codegen.specs.NameRefusals.{IsFirstOf}
@@ -16,39 +17,14 @@ abbrev pub NotBefore : Place → Place → Type 0
 NotBefore a b = (b.line < a.line) ⊎ ((b.line ≡ a.line) × (b.column ≤ a.column))
 
 module _ (a b : Place) where
-  decided : (Before a b × (place_before a b ≡ true)) ⊎ (NotBefore a b × (place_before a b ≡ false))
-  decided = elim (ltb a.line b.line) as (λ c. ltb a.line b.line ≡ c → (Before a b × ((c || (eqb a.line b.line && ltb a.column b.column)) ≡ true))
-      ⊎ (NotBefore a b × ((c || (eqb a.line b.line && ltb a.column b.column)) ≡ false))) [
-        | true ↦ λ l. inl (inl (ltb-true a.line b.line l), refl)
-        | false ↦ λ l. elim (eqb a.line b.line) as (λ d. eqb a.line b.line ≡ d → (Before a b × ((d && ltb a.column b.column) ≡ true)) ⊎ (NotBefore a b × ((d && ltb a.column b.column) ≡ false))) [
-          | true ↦ λ e. let same : a.line ≡ b.line = eqb-true a.line b.line e in
-              elim (ltb a.column b.column) as (λ k. ltb a.column b.column ≡ k → (Before a b × (k ≡ true)) ⊎ (NotBefore a b × (k ≡ false))) [
-                | true ↦ λ k. inl (inr (same, ltb-true a.column b.column k), refl)
-                | false ↦ λ k. inr (inr (sym same, ltb-false a.column b.column k), refl)
-              ] refl
-          | false ↦ λ e. let there : b.line ≤ a.line = ltb-false a.line b.line l in
-              let other : ¬ (a.line ≡ b.line) = λ h. let t = eq-eqb a.line b.line h in absurd cc in
-              inr (inl (omega (arith, there, other)), refl)
-        ] refl
-      ] refl
-
   before_from : place_before a b ≡ true → Before a b
-  before_from h = before_of decided where
-    before_of : (Before a b × (place_before a b ≡ true)) ⊎ (NotBefore a b × (place_before a b ≡ false)) → Before a b
-    before_of (inl p) = p.0
-    before_of (inr p) = let e = p.1 in absurd cc
+  before_from = pair_below a.line b.line a.column b.column
 
   pub not_before_from : place_before a b ≡ false → NotBefore a b
-  not_before_from h = not_of decided where
-    not_of : (Before a b × (place_before a b ≡ true)) ⊎ (NotBefore a b × (place_before a b ≡ false)) → NotBefore a b
-    not_of (inl p) = let e = p.1 in absurd cc
-    not_of (inr p) = p.0
+  not_before_from = not_pair_below a.line b.line a.column b.column
 
   is_false : (Before a b → ⊥) → place_before a b ≡ false
-  is_false h = of decided where
-    of : (Before a b × (place_before a b ≡ true)) ⊎ (NotBefore a b × (place_before a b ≡ false)) → place_before a b ≡ false
-    of (inl p) = absurd (h p.0)
-    of (inr p) = p.1
+  is_false h = false_by _ (λ e. h (before_from e))
 
 never : (a b : Place) → Before a b → NotBefore a b → ⊥
 never a b (inl x) (inl y) = omega arith
