@@ -19,7 +19,7 @@ use Rattle.lf_base.proofs.Lookup.{no_both}
 use Rattle.lf_base.proofs.Members.{Member_any}
 use Rattle.lf_base.proofs.Names.{same_name_is, same_name_itself}
 use Rattle.lf_base.proofs.OwnersGoRound.{none_above, owns_within, straight_before}
-use Rattle.lf_base.proofs.Quiet.{in_not_frozen, is_or_frozen, lead_near, local_not_frozen}
+use Rattle.lf_base.proofs.Quiet.{frozen_target, in_not_frozen, is_or_frozen, lead_near, local_not_frozen}
 use Rattle.lf_base.proofs.RegionMoves.{became, edge_before, edges_same, frozen_on, moves_keep, near_on, nothing, region_owner, swap_other, swap_region, swapped, the_new, the_same}
 use Rattle.lf_base.proofs.Sublists.{count_sub}
 use Rattle.lf_base.proofs.Watch.{false_by, or_split}
@@ -72,12 +72,6 @@ module _ (s : State) (t : WellFormed s) (r : ObjId) (own : owner_in s.rows r ≡
   target_owner : (e : Edge) → Member e (edges s) → (p q : ObjId) → e.from ≡ Field p → owner_in s.rows p ≡ Some (In q) → same_name r q ≡ false → (u : Option Owner) → owner_of s e.to ≡ u → from_inner q e.to u ≡ true → from_inner q e.to (owner_of after e.to) ≡ true
   target_owner e m p q f h n None k l = cc
   target_owner e m p q f h n (Some v) k l = inner_on e m p q f h n v k l
-
-  frozen_target : (u : Option Owner) → from_frozen u ≡ true → u ≡ Some Frozen
-  frozen_target None e = cc
-  frozen_target (Some Local) e = cc
-  frozen_target (Some (In q)) e = cc
-  frozen_target (Some Frozen) e = refl
 
   row_on : (e : Edge) → Member e (edges s) → (p : ObjId) → e.from ≡ Field p → (v : Owner) → owner_of s p ≡ Some v → from_row (Some v) e.to (owner_of s e.to) ≡ true → from_row (owner_of after p) e.to (owner_of after e.to) ≡ true
   row_on e m p f Frozen h l =

@@ -26,7 +26,7 @@ use Rattle.lf_base.proofs.Members.{Member_any, any_Member, or_true}
 use Rattle.lf_base.proofs.Names.{same_name_is, same_name_itself}
 use Rattle.lf_base.proofs.OwnersGoRound.{none_above}
 use Rattle.lf_base.proofs.Paths.{below_path, in_named}
-use Rattle.lf_base.proofs.Quiet.{few, in_not_frozen, is_or_frozen, local_not_frozen}
+use Rattle.lf_base.proofs.Quiet.{few, frozen_target, in_not_frozen, is_or_frozen, local_not_frozen}
 use Rattle.lf_base.proofs.RegionMoves.{became, edge_before, edges_same, frozen_on, in_that, moves_keep, near_on, nothing, region_owner, swap_other, swap_region, swapped, the_new, the_same}
 use Rattle.lf_base.proofs.Sublists.{count_sub}
 use Rattle.lf_base.proofs.Watch.{false_by, field_is, not_true, or_left, or_split, other_is, true_by}
@@ -145,12 +145,6 @@ module _ (s : State) (t : WellFormed s) (a b : ObjId) (own_a : owner_in s.rows a
             let bridge : same_name x e.to ≡ true = elim (or_split (same_name b x) (same_name x e.to) l) [ inl y ↦ absurd (no_both _ y z) | inr y ↦ y ] in
             ap (λ u. from_inner a e.to (or_frozen (froze e.to) u)) (still_owner e.to (In x) (in_or e.to x k) z) ∙ ap (λ c. same_name a x || c) bridge ∙ or_true _
       ] refl
-
-  frozen_target : (u : Option Owner) → from_frozen u ≡ true → u ≡ Some Frozen
-  frozen_target None e = cc
-  frozen_target (Some Local) e = cc
-  frozen_target (Some (In q)) e = cc
-  frozen_target (Some Frozen) e = refl
 
   row_on : (e : Edge) → Member e (edges s) → (p : ObjId) → e.from ≡ Field p → (u : Option Owner) → owner_of s p ≡ u → from_row u e.to (owner_of s e.to) ≡ true → from_row (owner_of after p) e.to (owner_of after e.to) ≡ true
   row_on e m p f None h l = cc

@@ -10,7 +10,7 @@ use Rattle.lf_base.specs.Names.{same_name}
 use Rattle.lf_base.specs.Owners.{bridges, has_row, is_bridge, or_frozen, owner_in}
 use Rattle.lf_base.specs.Ownership.{is_in_other, owning_edges}
 use Rattle.lf_base.specs.PlainState.{State}
-use Rattle.lf_base.specs.WellFormed.{Leads, WellFormed, from_inner, from_near, from_row, may_lead}
+use Rattle.lf_base.specs.WellFormed.{Leads, WellFormed, from_frozen, from_inner, from_near, from_row, may_lead}
 use Rattle.lf_base.specs.WriteResult.{fault_shown, first_shown, is_some_list, leads_inside, shows_interior}
 use Rattle.lf_base.proofs.Dropped.{and_join, and_parts, some_is}
 use Rattle.lf_base.proofs.Goes.{any_none}
@@ -28,6 +28,12 @@ lead_near (Some Frozen) t None e = e
 pub lead_local : (a : Option Owner) (t : ObjId) → from_row a t (Some Local) ≡ true → a ≡ Some Local
 lead_local None t e = cc
 lead_local (Some w) t e = ap Some (to_local w t e)
+
+pub frozen_target : (u : Option Owner) → from_frozen u ≡ true → u ≡ Some Frozen
+frozen_target None e = cc
+frozen_target (Some Local) e = cc
+frozen_target (Some (In q)) e = cc
+frozen_target (Some Frozen) e = refl
 
 pub is_or_frozen : (b : Bool) (w : Option Owner) (v : Owner) → (v ≡ Frozen → ⊥) → or_frozen b w ≡ Some v → w ≡ Some v
 is_or_frozen b (Some u) v n e = e
