@@ -107,7 +107,7 @@ reordered_by_owner (x ∷ xs) ys same =
     (then (skip (reordered_by_owner xs (s.front ++ s.back) (less_one x xs s.front s.back s.before g))) (to_middle x s.front s.back))
 
 -- ---- names
-or_swap : (a b c : Bool) → (a || (b || c)) ≡ (b || (a || c))
+pub or_swap : (a b c : Bool) → (a || (b || c)) ≡ (b || (a || c))
 or_swap true true c = refl
 or_swap true false c = refl
 or_swap false true c = refl

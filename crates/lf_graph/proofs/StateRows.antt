@@ -26,15 +26,9 @@ use Rattle.lf_graph.specs.Parts.{AllNew}
 use Rattle.lf_graph.specs.RowChanges.{changed, moved_last, new_row, under, with_fields, with_owner, with_row, without_row}
 use Rattle.lf_graph.specs.StoredRows.{AreRowsOf, CountedRow, IsNewName, NamesDiffer, SameByOwner, by_name, is_named, plain, row_named}
 use Rattle.lf_graph.proofs.Changes.{name_flips}
-use Rattle.lf_graph.proofs.Reordered.{Reordered, as_before, differ_reordered, in_order_reordered, neither, reordered_by_owner, skip, swap, then, to_middle, turned}
+use Rattle.lf_graph.proofs.Reordered.{Reordered, as_before, differ_reordered, in_order_reordered, neither, or_swap, reordered_by_owner, skip, swap, then, to_middle, turned}
 
 -- ---- inserting rows by name
-or_swap : (a b c : Bool) → (a || (b || c)) ≡ (b || (a || c))
-or_swap true true c = refl
-or_swap true false c = refl
-or_swap false true c = refl
-or_swap false false c = refl
-
 has_inserted : (x : Row) (ys : List Row) (o : ObjId) → has_row (insert_row x ys) o ≡ (same_name x.name o || has_row ys o)
 has_inserted x [] o = refl
 has_inserted x (y ∷ ys) o =
