@@ -278,9 +278,13 @@ module _ (n : ℕ) (ts r : List Token) (c : Cause) (ends : EndsOnce ts) where
       let p = part_items before_end (λ t h. h) none_reached (RoomOf BelowSixteen) room16 room16 64 64 32 32 (limits_same before_end (λ t h. h) none_reached BelowSixteen room16 64 32 tested16 (λ k. omega arith)) n n (omega arith) (λ h. refl) no_items in
       by_items (many read.before_end (read.item room16 32 64 n) no_items ts) (p.good ts) er
 
--- what is read
-pub read_script : (n : ℕ) (ts r : List Token) (t : PlainTree) → EndsOnce ts → read.script room16 32 64 n ts ≡ Ok t r → Found ts t r
-read_script n ts r t ends e =
+none_behind : (xs ys : List Token) → xs ++ ys ≡ [] → xs ≡ []
+none_behind [] ys e = refl
+none_behind (x ∷ xs) ys e = absurd (cc)
+
+-- what is read from a front of some tokens
+pub read_front : (n : ℕ) (ts more r : List Token) (t : PlainTree) → EndsOnce (ts ++ more) → read.script room16 32 64 n ts ≡ Ok t r → Found ts t r
+read_front n ts more r t ends e =
     let p = self BelowSixteen room16 64 32 n tested16 in
     let h = subst (Good (staying (λ c. ⊥)) (Scripts n) (read.script room16 32 64 n) ts) e (p.good ts) in
     let s = h.2 Unexpected in
@@ -288,12 +292,17 @@ read_script n ts r t ends e =
     let tok = q.4 in
     let own : h.0 ≡ s.0 ++ tok.0 ∷ [] = s.3 ∙ ap (λ z. s.0 ++ z) (q.3 ∙ ap (λ z. q.0 ++ z) q.5.0 ∙ append-nil q.0 ∙ tok.1) in
     let all : ts ≡ s.0 ++ tok.0 ∷ r = h.1 ∙ ap (λ z. z ++ r) own ∙ append_assoc s.0 (tok.0 ∷ []) r in
-    let nil : r ≡ [] = ends_last s.0 r tok.0 (end_kind tok.0 q.2 (is 0 (Some tok.0)) refl tok.2) (subst EndsOnce all ends) in
+    let with_more : ts ++ more ≡ s.0 ++ tok.0 ∷ (r ++ more) = ap (λ z. z ++ more) all ∙ append_assoc s.0 (tok.0 ∷ r) more in
+    let nil : r ≡ [] = none_behind r more (ends_last s.0 (r ++ more) tok.0 (end_kind tok.0 q.2 (is 0 (Some tok.0)) refl tok.2) (subst EndsOnce with_more ends)) in
     record { none_left = nil; tree = to_limits n ts t (subst (λ z. Scripts n Unexpected z t) (sym (h.1 ∙ ap (λ z. h.0 ++ z) nil ∙ append-nil h.0)) s) }
   where
     end_kind : (t a : Token) (b : Bool) → is 0 (Some t) ≡ b → (if b then Some t else None) ≡ Some a → kind (Some t) ≡ 0
     end_kind t a true h e = eqb-true (kind (Some t)) 0 h
     end_kind t a false h e = absurd (cc)
+
+-- what is read
+pub read_script : (n : ℕ) (ts r : List Token) (t : PlainTree) → EndsOnce ts → read.script room16 32 64 n ts ≡ Ok t r → Found ts t r
+read_script n ts r t ends e = read_front n ts [] r t (subst EndsOnce (sym (append-nil ts)) ends) e
 
 begins_of : (n : ℕ) (pre : List Token) → (pre ≡ []) ⊎ Begins (Scripts n Unexpected) pre → Begins WithinLimits pre
 begins_of n pre (inr b) = (b.0, b.1, to_limits n (pre ++ b.0) b.1 b.2)
@@ -312,22 +321,33 @@ why_by n ts pre r x TooMany lt er split o =
     let b = subst (λ z. Begins (Scripts n TooMany) (pre ++ z ∷ [])) same o.3 in
     ((b.0, b.1, to_levels n ((pre ++ x ∷ []) ++ b.0) b.1 b.2), no_parts n ts pre r x lt er split)
 
+-- what is refused at a token
+pub refused_at : (n : ℕ) (ts r : List Token) (x : Token) (c : Cause) → length ts < n → read.script room16 32 64 n ts ≡ Err c (x ∷ r) → Stops ts c (x ∷ r)
+refused_at n ts r x c lt er =
+    let p = self BelowSixteen room16 64 32 n tested16 in
+    let h = subst (Good (staying (λ c. ⊥)) (Scripts n) (read.script room16 32 64 n) ts) er (p.good ts) in
+    record {
+      before = h.0;
+      token = x;
+      after = r;
+      left_is = refl;
+      split = h.1;
+      begins = begins_of n h.0 h.2;
+      why = why_by n ts h.0 r x c lt er h.1 h.3;
+    }
+
 -- what is refused
 pub refused_script : (n : ℕ) (ts r : List Token) (c : Cause) → EndsOnce ts → length ts < n → read.script room16 32 64 n ts ≡ Err c r → Stops ts c r
 refused_script n ts r c ends lt er =
     let s = stands n ts r c ends er in
-    let er' : read.script room16 32 64 n ts ≡ Err c (s.0 ∷ s.1) = er ∙ ap (λ z. Err c z) s.2 in
+    subst (Stops ts c) (sym s.2) (refused_at n ts s.1 s.0 c lt (er ∙ ap (λ z. Err c z) s.2))
+
+-- tokens that are taken, before a refusal for want of more, begin a script
+pub begins_all : (n : ℕ) (ts : List Token) (c : Cause) → read.script room16 32 64 n ts ≡ Err c [] → Begins WithinLimits ts
+begins_all n ts c er =
     let p = self BelowSixteen room16 64 32 n tested16 in
-    let h = subst (Good (staying (λ c. ⊥)) (Scripts n) (read.script room16 32 64 n) ts) er' (p.good ts) in
-    record {
-      before = h.0;
-      token = s.0;
-      after = s.1;
-      left_is = s.2;
-      split = h.1 ∙ ap (λ z. h.0 ++ z) (sym s.2);
-      begins = begins_of n h.0 h.2;
-      why = why_by n ts h.0 s.1 s.0 c lt er' h.1 h.3;
-    }
+    let h = subst (Good (staying (λ c. ⊥)) (Scripts n) (read.script room16 32 64 n) ts) er (p.good ts) in
+    subst (Begins WithinLimits) (sym (h.1 ∙ append-nil h.0)) (begins_of n h.0 h.2)
 
 -- a tree within the limits is one within the levels
 pub limits_levels : (ts : List Token) (t : PlainTree) → WithinLimits ts t → WithinLevels ts t

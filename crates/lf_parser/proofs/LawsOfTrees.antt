@@ -18,6 +18,7 @@ use Rattle.lf_parser.specs.Grammar as form
 use Rattle.lf_parser.specs.Refusals.{AnyCount, WithinLimits, LinesFit, IsRefusal, Why}
 use Rattle.lf_parser.specs.Laws.{OneTree, TreeOrRefusal, OneRefusal, FieldsByText, ElifAlone}
 use Rattle.lf_parser.proofs.Exact.{unique, limits_levels}
+use Rattle.lf_parser.proofs.LongLines.{fits_front}
 
 pub one_tree : OneTree
 one_tree = unique
@@ -28,9 +29,6 @@ not_why kind.Unexpected xs b l w = let h = limits_levels (xs ++ b.0) b.1 b.2 in 
 not_why kind.TooDeepExpr xs b l w = w.1 (b.0, b.1, limits_levels (xs ++ b.0) b.1 b.2)
 not_why kind.TooManyParts xs b l w = w.1 (b, l)
 not_why _ xs b l w = absurd w
-
-fits_front : (ts xs ys : List Token) → ts ≡ xs ++ ys → LinesFit ts → LinesFit xs
-fits_front ts xs ys e l front rest h = l front (rest ++ ys) (e ∙ ap (λ z. z ++ ys) h ∙ append_assoc front rest ys)
 
 begins_front : (xs ys : List Token) → Begins WithinLimits (xs ++ ys) → Begins WithinLimits xs
 begins_front xs ys b = (ys ++ b.0, b.1, subst (λ z. WithinLimits z b.1) (append_assoc xs ys b.0) b.2)

@@ -1,5 +1,6 @@
 pub mod Good
 pub mod Tokens
+pub mod LongLines
 pub mod Loops
 pub mod Samples
 pub mod Knowing

@@ -1,109 +1,26 @@
 -- The grammar's answer and the lines' together.
-use Rattle.std.proofs.Common.{◌≡◌, ℕ, ◌+◌, ◌-◌, ◌<◌, ◌≤◌, List, [], ◌∷◌, ◌++◌, take, length, Some, None, Bool, true, false, refl, sym, ap, ◌∙◌, subst, arith, append-nil, append_assoc, length-append}
-use Rattle.std.specs.Prelude.{ltb, if◌then◌else◌}
-use Rattle.std.proofs.lemmas.Bool.{ltb-true, ltb-false}
-use Rattle.std.proofs.lemmas.List.{take_at}
-use Rattle.lf_base.specs.declared.refusals.RefusalKind.TheVariants as kind
+use Rattle.std.proofs.Common.{◌≡◌, ℕ, ◌+◌, ◌<◌, ◌≤◌, List, [], ◌∷◌, ◌++◌, take, drop, get_or, length, refl, sym, ap, ◌∙◌, subst, arith, append-nil, append_assoc}
+use Rattle.std.proofs.lemmas.List.{take_more, take-append-drop, length-take}
 use Rattle.lf_lexer.specs.declared.tokens.Token.{Token}
 use Rattle.lf_parser.specs.declared.halt.Cause.{Cause}
 use Rattle.lf_parser.specs.declared.halt.Cause.TheVariants as cause
 use Rattle.lf_parser.specs.Forms.{Begins}
+use Rattle.lf_parser.specs.Parsers.{Ok, Err}
 use Rattle.lf_parser.specs.Plain.{PlainTree}
-use Rattle.lf_parser.specs.Refusals.{WithinLevels, WithinLimits, counted, count_on, LinesFit, IsTree, Why, IsRefusal, WhyCause, Stops, past_line, kind_of}
-use Rattle.lf_parser.proofs.Exact.{limits_levels}
+use Rattle.lf_parser.specs.Reading as read
+use Rattle.lf_parser.specs.Refusals.{WithinLimits, last_count, LinesFit, EndsOnce, IsRefusal, IsFirstPast, Why, WhyCause, Stops, kind_of, stopped, too_many}
+use Rattle.lf_parser.proofs.Exact.{room16, limits_levels, read_front, refused_at, begins_all}
+use Rattle.lf_parser.proofs.LongLines.{fits_front, fits_before}
 
--- what the first token past its line says
-record Past (n : ℕ) (ts : List Token) (x : Token) : Type 0 where
-  before : List Token
-  after : List Token
-  split : ts ≡ before ++ x ∷ after
-  fits : (front rest : List Token) → before ≡ front ++ rest → count_on n front ≤ 1024
-  past : 1024 < count_on n (before ++ x ∷ [])
-
-none_past : (n : ℕ) (ts : List Token) → n ≤ 1024 → past_line n ts ≡ None → (front rest : List Token) → ts ≡ front ++ rest → count_on n front ≤ 1024
-none_past n ts le h [] rest e = le
-none_past n [] le h (y ∷ front) rest e = absurd (cc)
-none_past n (t ∷ ts) le h (y ∷ front) rest e = by_test (none_past (counted n t.lexeme) ts) (ltb 1024 (counted n t.lexeme)) refl h
-  where
-    by_test : (counted n t.lexeme ≤ 1024 → past_line (counted n t.lexeme) ts ≡ None → (front rest : List Token) → ts ≡ front ++ rest → count_on (counted n t.lexeme) front ≤ 1024)
-        → (b : Bool) → ltb 1024 (counted n t.lexeme) ≡ b → (if b then Some t else past_line (counted n t.lexeme) ts) ≡ None → count_on n (y ∷ front) ≤ 1024
-    by_test go true q h = absurd (cc)
-    by_test go false q h =
-        let same : t ≡ y = cc in
-        let tails : ts ≡ front ++ rest = cc in
-        subst (λ z. count_on n (z ∷ front) ≤ 1024) same (go (ltb-false 1024 (counted n t.lexeme) q) h front rest tails)
-
-only_empty : (n : ℕ) → n ≤ 1024 → (front rest : List Token) → [] ≡ front ++ rest → count_on n front ≤ 1024
-only_empty n le [] rest e = le
-only_empty n le (y ∷ front) rest e = absurd (cc)
-
--- the first token past its line, behind one more
-later : (n : ℕ) (t x : Token) (ts : List Token) → n ≤ 1024 → Past (counted n t.lexeme) ts x → Past n (t ∷ ts) x
-later n t x ts le p = record { before = t ∷ p.before; after = p.after; split = ap (λ z. t ∷ z) p.split; fits = fits; past = p.past }
-  where
-    fits : (front rest : List Token) → t ∷ p.before ≡ front ++ rest → count_on n front ≤ 1024
-    fits [] rest e = le
-    fits (y ∷ front) rest e =
-        let same : t ≡ y = cc in
-        let tails : p.before ≡ front ++ rest = cc in
-        subst (λ z. count_on n (z ∷ front) ≤ 1024) same (p.fits front rest tails)
-
-some_past : (n : ℕ) (ts : List Token) (x : Token) → n ≤ 1024 → past_line n ts ≡ Some x → Past n ts x
-some_past n [] x le h = absurd (cc)
-some_past n (t ∷ ts) x le h = by_test (some_past (counted n t.lexeme) ts x) (ltb 1024 (counted n t.lexeme)) refl h
-  where
-    by_test : (counted n t.lexeme ≤ 1024 → past_line (counted n t.lexeme) ts ≡ Some x → Past (counted n t.lexeme) ts x) → (b : Bool) → ltb 1024 (counted n t.lexeme) ≡ b → (if b then Some t else past_line (counted n t.lexeme) ts) ≡ Some x → Past n (t ∷ ts) x
-    by_test go true q h =
-        let same : t ≡ x = cc in
-        record {
-          before = [];
-          after = ts;
-          split = ap (λ z. z ∷ ts) same;
-          fits = only_empty n le;
-          past = subst (λ z. 1024 < counted n z.lexeme) same (ltb-true 1024 (counted n t.lexeme) q);
-        }
-    by_test go false q h = later n t x ts le (go (ltb-false 1024 (counted n t.lexeme) q) h)
-
--- no token is past its line
-pub lines_fit : (ts : List Token) → past_line 0 ts ≡ None → LinesFit ts
-lines_fit ts h front rest e = none_past 0 ts (omega arith) h front rest e
-
--- a token that is past its line is refused, where the tokens begin a script
-pub long_line : (ts pre rest : List Token) (x : Token) → ts ≡ pre ++ rest → Begins WithinLimits pre → past_line 0 pre ≡ Some x → IsRefusal ts (record { kind = kind.TooManyParts; place = x.place })
-long_line ts pre rest x split b h =
-    let p = some_past 0 pre x (omega arith) h in
-    let all : ts ≡ p.before ++ x ∷ (p.after ++ rest) = split ∙ ap (λ z. z ++ rest) p.split ∙ append_assoc p.before (x ∷ p.after) rest in
-    let whole : pre ++ b.0 ≡ p.before ++ (x ∷ (p.after ++ b.0)) = ap (λ z. z ++ b.0) p.split ∙ append_assoc p.before (x ∷ p.after) b.0 in
-    let one : pre ++ b.0 ≡ (p.before ++ x ∷ []) ++ (p.after ++ b.0) = whole ∙ sym (append_assoc p.before (x ∷ []) (p.after ++ b.0)) in
-    record {
-      before = p.before;
-      token = x;
-      after = p.after ++ rest;
-      split = all;
-      place_is = refl;
-      begins = ((x ∷ (p.after ++ b.0), b.1, subst (λ z. WithinLimits z b.1) whole b.2), p.fits);
-      why = (
-        (p.after ++ b.0, b.1, subst (λ z. WithinLevels z b.1) one (limits_levels (pre ++ b.0) b.1 b.2)),
-        λ both. let le = both.1 (p.before ++ x ∷ []) [] (sym (append-nil (p.before ++ x ∷ []))) in let lt = p.past in omega arith,
-      );
-    }
-
--- a tree whose lines fit
-pub parsed : (ts : List Token) (t : PlainTree) → WithinLimits ts t → past_line 0 ts ≡ None → IsTree ts t
-parsed ts t w h = (w, lines_fit ts h)
-
-pub parsed_long : (ts : List Token) (t : PlainTree) (x : Token) → WithinLimits ts t → past_line 0 ts ≡ Some x → IsRefusal ts (record { kind = kind.TooManyParts; place = x.place })
-parsed_long ts t x w h = long_line ts ts [] x (sym (append-nil ts)) ([], t, subst (λ z. WithinLimits z t) (sym (append-nil ts)) w) h
-
--- a refusal of the grammar, where the lines before it fit
-pub stopped : (ts left : List Token) (c : Cause) (s : Stops ts c left) → past_line 0 s.before ≡ None → IsRefusal ts (record { kind = kind_of c; place = s.token.place })
-stopped ts left c s h = record {
+-- a refusal of the grammar in a front of the tokens, where the lines before it fit
+stopped_in : (ts front more left : List Token) (c : Cause) (s : Stops front c left) → ts ≡ front ++ more → LinesFit s.before → IsRefusal ts (stopped c s.token)
+stopped_in ts front more left c s e fits = record {
   before = s.before;
   token = s.token;
-  after = s.after;
-  split = s.split ∙ ap (λ z. s.before ++ z) s.left_is;
+  after = s.after ++ more;
+  split = e ∙ ap (λ z. z ++ more) (s.split ∙ ap (λ z. s.before ++ z) s.left_is) ∙ append_assoc s.before (s.token ∷ s.after) more;
   place_is = refl;
-  begins = (s.begins, lines_fit s.before h);
+  begins = (s.begins, fits);
   why = by_cause c s.why;
 }
   where
@@ -112,12 +29,64 @@ stopped ts left c s h = record {
     by_cause cause.TooDeep w = w
     by_cause cause.TooMany w = (w.0, λ both. w.1 both.0)
 
-pub stopped_long : (ts left : List Token) (c : Cause) (x : Token) (s : Stops ts c left) → past_line 0 s.before ≡ Some x → IsRefusal ts (record { kind = kind.TooManyParts; place = x.place })
-stopped_long ts left c x s h = long_line ts s.before left x s.split s.begins h
+-- a refusal of the grammar, where all lines fit
+pub stopped_whole : (ts left : List Token) (c : Cause) (s : Stops ts c left) → LinesFit ts → IsRefusal ts (stopped c s.token)
+stopped_whole ts left c s fits = stopped_in ts ts [] left c s (sym (append-nil ts)) (fits_front ts s.before left s.split fits)
 
--- the tokens before those left
-pub front_is : (ts left : List Token) (c : Cause) (s : Stops ts c left) → take (length ts - length left) ts ≡ s.before
-front_is ts left c s =
-    let len : length ts ≡ length s.before + length left = ap length s.split ∙ length-append s.before left in
-    let many : length ts - length left ≡ length s.before = omega arith in
-    ap (λ n. take n ts) many ∙ ap (take (length s.before)) s.split ∙ take_at s.before left (length s.before) refl
+-- the tokens up to the first that is one too many on its line, as they are read
+module _ (ts : List Token) (i : ℕ) (d : Token) (p : IsFirstPast ts i) where
+  abbrev before : List Token
+  before = take i ts
+
+  abbrev last : Token
+  last = get_or ts i d
+
+  abbrev pub front : List Token
+  front = take (i + 1) ts
+
+  abbrev more : List Token
+  more = drop (i + 1) ts
+
+  one_more : front ≡ before ++ last ∷ []
+  one_more = take_more ts i d p.there
+
+  all : ts ≡ front ++ more
+  all = sym (take-append-drop (i + 1) ts)
+
+  -- where they begin a script, the last one is refused
+  past_refused : Begins WithinLimits front → IsRefusal ts (too_many last)
+  past_refused b =
+      let c : Begins WithinLimits (before ++ last ∷ []) = subst (Begins WithinLimits) one_more b in
+      let past : 1024 < last_count (before ++ last ∷ []) = subst (λ z. 1024 < last_count z) one_more p.past in
+      record {
+        before = before;
+        token = last;
+        after = more;
+        split = all ∙ ap (λ z. z ++ more) one_more ∙ append_assoc before (last ∷ []) more;
+        place_is = refl;
+        begins = ((last ∷ c.0, c.1, subst (λ z. WithinLimits z c.1) (append_assoc before (last ∷ []) c.0) c.2), p.fits);
+        why = (
+          (c.0, c.1, limits_levels ((before ++ last ∷ []) ++ c.0) c.1 c.2),
+          λ both. let le = both.1 (before ++ last ∷ []) [] (sym (append-nil (before ++ last ∷ []))) in omega (arith, le, past),
+        );
+      }
+
+  pub whole_front : (n : ℕ) (r : List Token) (t : PlainTree) → EndsOnce ts → read.script room16 32 64 n front ≡ Ok t r → IsRefusal ts (too_many last)
+  whole_front n r t ends e =
+      let f = read_front n front more r t (subst EndsOnce all ends) e in
+      past_refused ([], t, subst (λ z. WithinLimits z t) (sym (append-nil front)) f.tree)
+
+  -- where all of them are taken before a refusal, too
+  pub taken_front : (n : ℕ) (left : List Token) (c : Cause) → length left < 1 → read.script room16 32 64 n front ≡ Err c left → IsRefusal ts (too_many last)
+  taken_front n [] c none e = past_refused (begins_all n front c e)
+  taken_front n (x ∷ r) c none e = absurd (omega arith)
+
+  -- else the grammar's refusal stands
+  pub stopped_front : (n : ℕ) (left : List Token) (c : Cause) → i + 1 < n → 1 ≤ length left → read.script room16 32 64 n front ≡ Err c left → IsRefusal ts (stopped c (get_or left 0 d))
+  stopped_front n [] c lt some e = absurd (omega arith)
+  stopped_front n (y ∷ r) c lt some e =
+      let s = refused_at n front r y c (omega (arith, length-take (i + 1) ts)) e in
+      let left = s.left_is in
+      let same : s.token ≡ y = cc in
+      let fits = fits_before before s.before s.after last s.token p.fits (sym one_more ∙ s.split ∙ ap (λ z. s.before ++ z) s.left_is) in
+      subst (λ z. IsRefusal ts (stopped c z)) same (stopped_in ts front more (y ∷ r) c s all fits)

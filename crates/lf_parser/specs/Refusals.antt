@@ -1,5 +1,5 @@
 -- Which tree some tokens make, within the limits and without them, and which refusal is theirs.
-use Rattle.std.specs.Prelude.{◌≡◌, ◌<◌, ◌≤◌, ◌^◌, ℕ, suc, List, [], ◌∷◌, ◌++◌, length, Option, Some, None, ltb, if◌then◌else◌}
+use Rattle.std.specs.Prelude.{◌≡◌, ◌<◌, ◌≤◌, ◌+◌, ◌^◌, ℕ, suc, List, [], ◌∷◌, ◌++◌, length, take, Some}
 use Rattle.lf_base.specs.declared.refusals.Refusal.{Refusal}
 use Rattle.lf_base.specs.declared.refusals.RefusalKind.{RefusalKind}
 use Rattle.lf_base.specs.declared.refusals.RefusalKind.TheVariants.{Unexpected, TooDeepExpr, TooManyParts}
@@ -106,10 +106,11 @@ pub record Stops (tokens : List Token) (c : Cause) (left : List Token) : Type 0 
   pub begins : Begins WithinLimits before
   pub why : WhyCause c (before ++ token ∷ [])
 
--- the first token that is one too many on its line, where n came before them
-abbrev pub past_line : ℕ → List Token → Option Token
-past_line n [] = None
-past_line n (t ∷ ts) = if ltb 1024 (counted n t.lexeme) then Some t else past_line (counted n t.lexeme) ts
+-- the token of this number is the first that is one too many on its line
+pub record IsFirstPast (tokens : List Token) (index : ℕ) : Type 0 where
+  pub there : index < length tokens
+  pub fits : LinesFit (take index tokens)
+  pub past : 1024 < last_count (take (index + 1) tokens)
 
 -- what `parse` needs of the tokens
 pub record Readable (tokens : List Token) : Type 0 where
@@ -120,6 +121,10 @@ pub record Readable (tokens : List Token) : Type 0 where
 abbrev pub FailsAs : List Token → ReadFail → Type 0
 FailsAs tokens (fail.Refused refusal) = IsRefusal tokens refusal
 FailsAs tokens fail.OutOfMemory = Unit {0}
+
+-- the grammar's refusal of a token
+abbrev pub stopped : Cause → Token → Refusal
+stopped c token = record { kind = kind_of c; place = token.place }
 
 -- the refusal of a token that is one too many
 abbrev pub too_many : Token → Refusal

@@ -1,4 +1,4 @@
-ghost use Rattle.std.specs.Prelude.{◌≡◌, ◌≤◌};
+ghost use Rattle.std.specs.Prelude.{◌≡◌, ◌≤◌, MatchOption};
 ghost use Rattle.lf_parser.specs.Refusals as spec;
 
 use lf_lexer::{Lexeme, Token};
@@ -18,15 +18,15 @@ fn counted(count: usize, lexeme: Lexeme) -> usize
     }
 }
 
-/// The first token that is one too many on its line.
-pub fn first_past(tokens: &[Token]) -> Option<Token>
-    ensures { result ≡ spec.past_line 0 tokens.now }
+/// The number of the first token that is one too many on its line.
+pub fn first_past(tokens: &[Token]) -> Option<usize>
+    ensures { MatchOption result (spec.LinesFit tokens.now) (spec.IsFirstPast tokens.now) }
 {
     let mut count = 0;
-    for token in tokens {
+    for (index, token) in tokens.iter().enumerate() {
         count = counted(count, token.lexeme);
         if count > MOST_LINE_TOKENS {
-            return Some(*token);
+            return Some(index);
         }
     }
     None

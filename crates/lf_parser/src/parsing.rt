@@ -1,6 +1,6 @@
 ghost use Rattle.std.specs.Prelude.{◌≡◌, IfErr, IfOk};
 ghost use Rattle.lf_parser.specs.Plain.{plain_tree};
-ghost use Rattle.lf_parser.specs.Refusals.{FailsAs, IsRefusal, IsTree, Readable, Stops, WithinLimits};
+ghost use Rattle.lf_parser.specs.Refusals.{FailsAs, IsFirstPast, IsRefusal, IsTree, LinesFit, Readable, Stops};
 ghost use Rattle.lf_parser.specs.Refusals as spec;
 
 use crate::cursor::Cursor;
@@ -24,11 +24,61 @@ pub fn parse(alloc: Global, lexed: &Lexed) -> Result<Tree, ReadFail>
     ensures refused { IfErr result (FailsAs lexed.now.tokens) }
 {
     let tokens = lexed.tokens.as_slice();
+    match first_past(tokens) {
+        Some(index) => Err(long_line(alloc, tokens, index)),
+        None => whole(alloc, tokens),
+    }
+}
+
+/// The tree of tokens of which no line is too long, or their refusal.
+fn whole(alloc: Global, tokens: &[Token]) -> Result<Tree, ReadFail>
+    requires readable { Readable tokens.now }
+    requires fits { LinesFit tokens.now }
+    ensures tree { IfOk result (λ tree. IsTree tokens.now (plain_tree tree)) }
+    ensures refused { IfErr result (FailsAs tokens.now) }
+{
     let mut cursor = Cursor::new(tokens);
     match read_script(alloc, &mut cursor, tokens.len() + 1) {
-        Ok(tree) => whole(tokens, tree),
+        Ok(tree) => Ok(tree),
         Err(Halt::OutOfMemory) => Err(ReadFail::OutOfMemory),
         Err(Halt::Refused(cause)) => Err(ReadFail::Refused(refusal(tokens, cursor.rest(), cause))),
+    }
+}
+
+/// The grammar's refusal, at the first of the tokens left.
+fn refusal(tokens: &[Token], left: &[Token], cause: Cause) -> Refusal
+    requires stops { Stops tokens.now cause left.now }
+    requires fits { LinesFit tokens.now }
+    ensures { IsRefusal tokens.now result }
+{
+    stopped(cause, left[0])
+}
+
+/// The refusal of tokens of which this one is the first that is too many on its line. Those behind
+/// it aren't read, so that no tree is deeper than a line allows.
+fn long_line(alloc: Global, tokens: &[Token], index: usize) -> ReadFail
+    requires readable { Readable tokens.now }
+    requires past { IsFirstPast tokens.now index }
+    ensures { FailsAs tokens.now result }
+{
+    let mut cursor = Cursor::new(&tokens[..index + 1]);
+    match read_script(alloc, &mut cursor, index + 2) {
+        Err(Halt::OutOfMemory) => ReadFail::OutOfMemory,
+        Err(Halt::Refused(cause)) => match cursor.rest() {
+            [token, ..] => ReadFail::Refused(stopped(cause, *token)),
+            [] => ReadFail::Refused(too_many(tokens[index])),
+        },
+        Ok(_) => ReadFail::Refused(too_many(tokens[index])),
+    }
+}
+
+/// The grammar's refusal of a token.
+fn stopped(cause: Cause, token: Token) -> Refusal
+    ensures { result ≡ spec.stopped cause token }
+{
+    Refusal {
+        kind: cause.kind(),
+        place: token.place,
     }
 }
 
@@ -39,32 +89,5 @@ fn too_many(token: Token) -> Refusal
     Refusal {
         kind: RefusalKind::TooManyParts,
         place: token.place,
-    }
-}
-
-/// The tree, where no line is too long.
-fn whole(tokens: &[Token], tree: Tree) -> Result<Tree, ReadFail>
-    requires { WithinLimits tokens.now (plain_tree tree) }
-    ensures tree { IfOk result (λ tree. IsTree tokens.now (plain_tree tree)) }
-    ensures refused { IfErr result (FailsAs tokens.now) }
-{
-    match first_past(tokens) {
-        Some(token) => Err(ReadFail::Refused(too_many(token))),
-        None => Ok(tree),
-    }
-}
-
-/// The refusal of the first of the tokens left, or of an earlier one whose line
-/// is too long.
-fn refusal(tokens: &[Token], left: &[Token], cause: Cause) -> Refusal
-    requires { Stops tokens.now cause left.now }
-    ensures { IsRefusal tokens.now result }
-{
-    if let Some(token) = first_past(&tokens[..tokens.len() - left.len()]) {
-        return too_many(token);
-    }
-    Refusal {
-        kind: cause.kind(),
-        place: left[0].place,
     }
 }

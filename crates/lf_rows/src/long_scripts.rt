@@ -14,7 +14,7 @@ pub struct LongScript {
 }
 
 // Scripts at the limits of the language, and past them.
-static LONG_SCRIPTS: [LongScript; 6] = [
+static LONG_SCRIPTS: [LongScript; 8] = [
     LongScript {
         name: "64 groups, one in another",
         parts: &[
@@ -83,6 +83,38 @@ static LONG_SCRIPTS: [LongScript; 6] = [
             Repeated {
                 part: "+1",
                 times: 511,
+            },
+        ],
+        text: "refused TooManyParts at line 1 column 1025\n",
+    },
+    LongScript {
+        name: "a sum as long as a script may be",
+        parts: &[
+            Repeated {
+                part: "x=1",
+                times: 1,
+            },
+            Repeated {
+                part: "+1",
+                times: 524_286,
+            },
+        ],
+        text: "refused TooManyParts at line 1 column 1025\n",
+    },
+    LongScript {
+        name: "fields of fields as long as a script may be, and no name behind the last dot",
+        parts: &[
+            Repeated {
+                part: "x",
+                times: 1,
+            },
+            Repeated {
+                part: ".f",
+                times: 524_286,
+            },
+            Repeated {
+                part: ".",
+                times: 1,
             },
         ],
         text: "refused TooManyParts at line 1 column 1025\n",

@@ -1,9 +1,10 @@
-use Rattle.std.proofs.Common.{◌≡◌, ◌≤◌, drop}
-use Rattle.lf_parser.specs.Refusals.{past_line}
+use Rattle.std.proofs.Common.{◌≡◌, ◌≤◌, take}
+use Rattle.lf_parser.specs.Refusals.{last_count, LinesFit}
 use Rattle.lf_parser.proofs.lines.first_past.Given as goal
 
-abbrev pub invariant-loop-token : goal.invariant-loop-token
-invariant-loop-token l = record {
+abbrev pub invariant-loop-index : goal.invariant-loop-index
+invariant-loop-index l = record {
   few : l.count ≤ 1024;
-  same : past_line 0 l.tokens ≡ past_line l.count (drop l.token-index l.tokens);
+  count_is : l.count ≡ last_count (take l.index l.tokens);
+  fits : LinesFit (take l.index l.tokens);
 }
