@@ -1,19 +1,19 @@
 -- Each suspect is idle or goes.
-use Rattle.std.proofs.Common.{Bool, None, Option, Some, [], ap, false, inl, inr, refl, subst, sym, true, ◌∙◌, ◌≡◌, ◌⊎◌}
+use Rattle.std.proofs.Common.{Bool, None, Option, Some, ap, false, inl, inr, refl, subst, sym, true, ◌∙◌, ◌≡◌, ◌⊎◌}
 use Rattle.lf_base.specs.declared.ids.ObjId.{ObjId}
 use Rattle.lf_base.specs.declared.values.Owner.{Owner}
 use Rattle.lf_base.specs.declared.values.Owner.TheVariants.{Frozen, In, Local}
-use Rattle.lf_base.specs.Kept.{is_owned_by, kept_rows, points, points_into, stays_by_owner}
+use Rattle.lf_base.specs.Kept.{is_owned_by, points, points_into}
 use Rattle.lf_base.specs.Names.{same_name}
-use Rattle.lf_base.specs.Owners.{has_row, is_in, owner_in}
+use Rattle.lf_base.specs.Owners.{is_in, owner_in}
 use Rattle.lf_base.specs.PlainState.{State}
-use Rattle.lf_base.specs.Settling.{CanGo, Idle, Spent, Watched}
+use Rattle.lf_base.specs.Settling.{CanGo, Idle, Spent}
 use Rattle.lf_base.specs.Suspects.{Bare, Object, Region, Suspect}
-use Rattle.lf_base.proofs.Dropped.{in_region}
+use Rattle.lf_base.proofs.Leaning.{in_region}
 use Rattle.lf_base.proofs.Goes.{inner_goes, into_zero, local_goes, of_region, owned_zero, points_zero, region_goes}
-use Rattle.lf_base.proofs.Lookup.{in_is, kept_stays, no_both, owner_has, owner_is}
+use Rattle.lf_base.proofs.Lookup.{in_is, no_both, owner_is}
 use Rattle.lf_base.proofs.Names.{same_name_itself}
-use Rattle.lf_base.proofs.Watch.{Setting, bare_inner, bare_region}
+use Rattle.lf_base.proofs.Watch.{Setting}
 
 pub data Choice (s : State) (u : Suspect) : Type 0 where
   idle : Idle s u → Choice s u
@@ -74,15 +74,3 @@ module _ (s : State) (g : Setting s) where
   pub choice : (u : Suspect) → Choice s u
   choice (Object o) = object_choice o (owner_in s.rows o) refl
   choice (Region r) = region_choice r (is_in r (owner_in s.rows r)) refl
-
--- where all rows stay no unit is bare
-module _ (s : State) (g : Setting s) (all : kept_rows s ≡ s.rows) where
-  there : (o : ObjId) (v : Owner) → owner_in s.rows o ≡ Some v → stays_by_owner s s.rows o v ≡ true
-  there o v h = ap (λ rows. stays_by_owner s rows o v) (sym all) ∙ kept_stays s g.distinct o v h (ap (λ rows. has_row rows o) all ∙ owner_has s.rows o v h)
-
-  pub own_kept_watched : Watched s []
-  own_kept_watched = record {
-    locals = λ o h n. absurd (no_both _ (there o Local h) n);
-    regions = λ r h b. absurd (no_both _ (there r (In r) h) (bare_region s g r b));
-    inners = λ o r h d k n. absurd (no_both _ (there o (In r) h) (bare_inner s g o r d n));
-  }

@@ -19,7 +19,8 @@ use Rattle.lf_base.specs.Ownership.{is_from, is_owning, owning_edges, owns}
 use Rattle.lf_base.specs.PlainState.{State}
 use Rattle.lf_base.specs.Sets.{Differ, Member}
 use Rattle.lf_base.specs.WellFormed.{IsNumber, Leads, SlotMayHold, WellFormed, all_cowns, all_values, content_values, field_values, from_content, from_near, may_lead, own_cowns, slot_values}
-use Rattle.lf_base.proofs.Dropped.{and_parts, in_region}
+use Rattle.lf_base.proofs.Leaning.{in_region}
+use Rattle.lf_base.proofs.Tests.{and_parts}
 use Rattle.lf_base.proofs.Goes.{none_count}
 use Rattle.lf_base.proofs.Lookup.{no_both}
 use Rattle.lf_base.proofs.Members.{Member_flat_map, Member_of_flat_map, Member_of_map}

@@ -13,7 +13,7 @@ use Rattle.lf_base.specs.PlainState.{State}
 use Rattle.lf_base.specs.Sets.{Differ, Member}
 use Rattle.lf_base.specs.WellFormed.{IsNumber, SlotMayHold, WellFormed, all_values, content_values, own_cowns}
 use Rattle.lf_base.proofs.ContentChange.{Puts, content_keeps, content_quiet}
-use Rattle.lf_base.proofs.Dropped.{and_parts}
+use Rattle.lf_base.proofs.Tests.{and_parts}
 use Rattle.lf_base.proofs.Lookup.{no_both}
 use Rattle.lf_base.proofs.Members.{Member_any, any_Member}
 use Rattle.lf_base.proofs.Sets.{Member_left, Member_of_append, Member_right}

@@ -14,7 +14,9 @@ use Rattle.lf_base.specs.Ownership.{is_in_other, is_owned, is_owning, owning_edg
 use Rattle.lf_base.specs.PlainState.{Row, State}
 use Rattle.lf_base.specs.Sets.{Member}
 use Rattle.lf_base.specs.WellFormed.{Leads, WellFormed, from_content, from_frozen, from_inner, from_row, may_lead}
-use Rattle.lf_base.proofs.Dropped.{and_join, and_parts, in_region, some_is, sub_all}
+use Rattle.lf_base.proofs.Leaning.{in_region}
+use Rattle.lf_base.proofs.ListParts.{sub_all}
+use Rattle.lf_base.proofs.Tests.{and_join, and_parts, some_is}
 use Rattle.lf_base.proofs.Lookup.{no_both}
 use Rattle.lf_base.proofs.Members.{Member_any}
 use Rattle.lf_base.proofs.Names.{same_name_is, same_name_itself}

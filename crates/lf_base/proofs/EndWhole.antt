@@ -18,7 +18,7 @@ use Rattle.lf_base.specs.Settling.{without}
 use Rattle.lf_base.specs.WalkCounts.{borrowed, borrows, is_borrower, is_open}
 use Rattle.lf_base.specs.WellFormed.{WellFormed, from_content, may_lead}
 use Rattle.lf_base.proofs.Counts.{Distinct}
-use Rattle.lf_base.proofs.Dropped.{row_of}
+use Rattle.lf_base.proofs.Leaning.{row_of}
 use Rattle.lf_base.proofs.Goes.{any_none, at_content, at_frozen, at_row, at_slot, begins, none_count, rest_within}
 use Rattle.lf_base.proofs.KeptWhole.{frozen_leads_on, kept_again, well_formed_kept}
 use Rattle.lf_base.proofs.LeftWhole.{MayLeave, left_well_formed}

@@ -18,7 +18,8 @@ use Rattle.lf_base.specs.Sets.{Differ, Member}
 use Rattle.lf_base.specs.TakeResult.{drop_field, take_result}
 use Rattle.lf_base.specs.WellFormed.{WellFormed, all_cowns, all_values, content_values, field_values, own_cowns, slot_values}
 use Rattle.lf_base.specs.WriteResult.{is_at}
-use Rattle.lf_base.proofs.Dropped.{Sub, and_join, and_parts, none, pass, some_is, sub_all, sub_within, take}
+use Rattle.lf_base.proofs.ListParts.{Sub, none, pass, sub_all, sub_within, take}
+use Rattle.lf_base.proofs.Tests.{and_join, and_parts, some_is}
 use Rattle.lf_base.proofs.Members.{Member_flat_map, Member_of_flat_map, Member_of_map}
 use Rattle.lf_base.proofs.SameOwners.{keeps_well_formed, slot_owns, slot_target, slot_value, with_both}
 use Rattle.lf_base.proofs.Sets.{Member_left, Member_of_append, Member_right}

@@ -12,7 +12,7 @@ use Rattle.lf_base.specs.PlainChanges.{first_state}
 use Rattle.lf_base.specs.PlainState.{Row, State}
 use Rattle.lf_base.specs.Sets.{Differ, InOrder, Member}
 use Rattle.lf_base.specs.WellFormed.{Leads, MayBeGiven, WellFormed, field_values, from_row, may_lead}
-use Rattle.lf_base.proofs.Dropped.{mem_has}
+use Rattle.lf_base.proofs.ListParts.{mem_has}
 use Rattle.lf_base.proofs.Goes.{any_none}
 use Rattle.lf_base.proofs.Lookup.{edge_row}
 use Rattle.lf_base.proofs.Members.{Within_flat_map}

@@ -17,7 +17,9 @@ use Rattle.lf_base.specs.PlainState.{Row, State}
 use Rattle.lf_base.specs.Sets.{Differ, Member}
 use Rattle.lf_base.specs.WellFormed.{Leads, WellFormed, all_cowns, all_names, all_values, content_values, field_values, from_content, from_near, from_row, may_lead, own_cowns, slot_values}
 use Rattle.lf_base.proofs.Counts.{Distinct}
-use Rattle.lf_base.proofs.Dropped.{Sub, and_join, and_parts, mem_has, row_of, sub_all, sub_filter, sub_within}
+use Rattle.lf_base.proofs.Leaning.{row_of}
+use Rattle.lf_base.proofs.ListParts.{Sub, mem_has, sub_all, sub_filter, sub_within}
+use Rattle.lf_base.proofs.Tests.{and_join, and_parts}
 use Rattle.lf_base.proofs.Goes.{at_content, at_frozen, at_row, at_slot, begins, none_count}
 use Rattle.lf_base.proofs.InsertedRows.{Apart, all_inserted, all_order, append_assoc, differ_all, distinct_frozen, distinct_sub, has_all, has_append, has_frozen}
 use Rattle.lf_base.proofs.Lookup.{edge_row, named, no_both, owner_there}
@@ -172,9 +174,6 @@ module _ (s : State) (v : Value) (t : WellFormed s) where
         | true ↦ λ e. gone_owner o e
         | false ↦ λ e. left_owner o e ∙ ap (or_frozen (has_row s.given o || has_row s.own o)) h ∙ frozen_near (has_row s.given o || has_row s.own o) (ap (λ u. from_near (or_frozen (has_row s.given o || has_row s.own o) u)) (sym h) ∙ near)
       ] refl
-
-  abbrev froze : ObjId → Bool
-  froze o = has_row s.given o || has_row s.own o
 
   -- to a target that is frozen after
   to_frozen : (f : Source) (u : Option Owner) (o : ObjId) (w : Option Owner) → from_row u o w ≡ true → from_row u o (Some Frozen) ≡ true

@@ -6,7 +6,7 @@ use Rattle.lf_base.specs.PlainChanges.{with_slot}
 use Rattle.lf_base.specs.PlainState.{State}
 use Rattle.lf_base.specs.Sets.{Member}
 use Rattle.lf_base.specs.WellFormed.{SlotMayHold, WellFormed, all_values, slot_values}
-use Rattle.lf_base.proofs.Dropped.{some_is}
+use Rattle.lf_base.proofs.Tests.{some_is}
 use Rattle.lf_base.proofs.Members.{Member_flat_map}
 use Rattle.lf_base.proofs.SameOwners.{slots_keep, value_may_be_held}
 use Rattle.lf_base.proofs.Sets.{Member_left, Member_of_append, Member_right}

@@ -18,7 +18,9 @@ use Rattle.lf_base.specs.Settling.{CanGo, without}
 use Rattle.lf_base.specs.Suspects.{Bare, MustGo}
 use Rattle.lf_base.specs.WalkCounts.{borrowed, borrows, is_borrower, refs}
 use Rattle.lf_base.specs.WellFormed.{from_content, from_frozen, from_row, may_lead}
-use Rattle.lf_base.proofs.Dropped.{and_join, and_parts, in_region, mem_has}
+use Rattle.lf_base.proofs.Leaning.{in_region}
+use Rattle.lf_base.proofs.ListParts.{mem_has}
+use Rattle.lf_base.proofs.Tests.{and_join, and_parts}
 use Rattle.lf_base.proofs.Lookup.{edge_row, in_is, kept_stays, no_both, owner_has, owner_is, owner_mem, row_leads, to_region}
 use Rattle.lf_base.proofs.Members.{Member_any, Member_of_flat_map, Member_of_map, Within_append, Within_flat_map, any_Member, or_true}
 use Rattle.lf_base.proofs.Names.{same_name_is, same_name_itself}

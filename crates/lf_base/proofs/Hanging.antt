@@ -15,7 +15,9 @@ use Rattle.lf_base.specs.Settling.{Watched}
 use Rattle.lf_base.specs.Suspects.{AllHang, Bare, Hangs, LeadsTo, MustGo, Object, Region, Suspect, Suspected, by_region, by_row, by_row_into, itself}
 use Rattle.lf_base.specs.WalkCounts.{is_borrower}
 use Rattle.lf_base.specs.WellFormed.{from_row}
-use Rattle.lf_base.proofs.Dropped.{and_join, and_parts, in_region, mem_has, not_false, row_of, some_is, sub_all, sub_same, sub_shrink}
+use Rattle.lf_base.proofs.Leaning.{in_region, row_of}
+use Rattle.lf_base.proofs.ListParts.{mem_has, sub_all, sub_same, sub_shrink}
+use Rattle.lf_base.proofs.Tests.{and_join, and_parts, not_false, some_is}
 use Rattle.lf_base.proofs.Least.{Grows, least_closed}
 use Rattle.lf_base.proofs.Lookup.{EdgeRow, edge_in, edge_row, joined_has, kept_in, kept_stays, named, no_both, owner_has, owner_mem, row_edge, to_local, to_region}
 use Rattle.lf_base.proofs.Members.{Member_any, Member_map, any_Member, any_more, or_true}

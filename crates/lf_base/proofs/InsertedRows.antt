@@ -12,7 +12,7 @@ use Rattle.lf_base.specs.PlainState.{Row}
 use Rattle.lf_base.specs.Sets.{Differ, InOrder, Member}
 use Rattle.lf_base.specs.WellFormed.{field_values}
 use Rattle.lf_base.proofs.Counts.{Distinct}
-use Rattle.lf_base.proofs.Dropped.{Sub, none, pass, sub_within, take}
+use Rattle.lf_base.proofs.ListParts.{Sub, none, pass, sub_within, take}
 use Rattle.lf_base.proofs.Goes.{any_none, none_any}
 use Rattle.lf_base.proofs.Lookup.{no_both}
 use Rattle.lf_base.proofs.Members.{Member_map, Member_of_map, any_more, or_true}

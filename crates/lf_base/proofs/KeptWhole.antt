@@ -14,7 +14,9 @@ use Rattle.lf_base.specs.Sets.{Member}
 use Rattle.lf_base.specs.Settling.{CanGo, without}
 use Rattle.lf_base.specs.WalkCounts.{is_borrower}
 use Rattle.lf_base.specs.WellFormed.{WellFormed, from_content, from_frozen, from_row, may_lead}
-use Rattle.lf_base.proofs.Dropped.{Bridged, and_join, and_parts, leans, mem_has, row_of, sub_filter, sub_same, sub_shrink}
+use Rattle.lf_base.proofs.Leaning.{Bridged, leans, row_of}
+use Rattle.lf_base.proofs.ListParts.{mem_has, sub_filter, sub_same, sub_shrink}
+use Rattle.lf_base.proofs.Tests.{and_join, and_parts}
 use Rattle.lf_base.proofs.Goes.{at_content, at_frozen, at_row, at_slot, begins, rest_within}
 use Rattle.lf_base.proofs.LeftWhole.{well_formed_without}
 use Rattle.lf_base.proofs.Lookup.{EdgeRow, IntoRegion, edge_row, joined_has, kept_in, kept_stays, no_both, owner_has, owner_mem, owner_there, to_region}

@@ -12,7 +12,8 @@ use Rattle.lf_base.specs.PlainState.{Row, State}
 use Rattle.lf_base.specs.Sets.{Member}
 use Rattle.lf_base.specs.Settling.{CanGo, without}
 use Rattle.lf_base.specs.WellFormed.{WellFormed, all_cowns, all_values, content_values, field_values, from_content, from_near, from_row, may_lead, own_cowns, slot_values}
-use Rattle.lf_base.proofs.Dropped.{Sub, and_join, and_parts, sub_all, sub_filter, sub_within}
+use Rattle.lf_base.proofs.ListParts.{Sub, sub_all, sub_filter, sub_within}
+use Rattle.lf_base.proofs.Tests.{and_join, and_parts}
 use Rattle.lf_base.proofs.Goes.{at_content, at_frozen, at_row, at_slot, begins}
 use Rattle.lf_base.proofs.Lookup.{no_both, owner_there}
 use Rattle.lf_base.proofs.MovedRows.{differ_rows}

@@ -5,7 +5,6 @@ pub mod ContentLaw
 pub mod Counts
 pub mod CownNames
 pub mod DissolveWhole
-pub mod Dropped
 pub mod EndWhole
 pub mod FewerFields
 pub mod FirstState
@@ -16,9 +15,11 @@ pub mod Hanging
 pub mod InsertedRows
 pub mod KeptWhole
 pub mod KeyLemmas
+pub mod Leaning
 pub mod Least
 pub mod LeftWhole
 pub mod LinkedLists
+pub mod ListParts
 pub mod LocalWrite
 pub mod Lookup
 pub mod Members
@@ -28,7 +29,6 @@ pub mod Names
 pub mod NewRows
 pub mod OwnersAfterWrite
 pub mod OwnersGoRound
-pub mod Owning
 pub mod PairOrder
 pub mod Paths
 pub mod Quiet
@@ -39,6 +39,7 @@ pub mod Sets
 pub mod Setting
 pub mod Stays
 pub mod Sublists
+pub mod Tests
 pub mod TextLemmas
 pub mod Watch
 pub mod Without

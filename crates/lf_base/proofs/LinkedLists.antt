@@ -264,10 +264,6 @@ module _ {N : Type 0} where
     relinked_away get None f q h = refl
     relinked_away get (Some x) f q h = relinked_other get x f q (h x refl)
 
-    -- without members there is no node
-    pub IsList-nil : (get : N → Option (Link N)) (member : N → Bool) → ((q : N) → member q ≡ false) → IsList same get None None member []
-    IsList-nil get member none = record { links = tt; differ = tt; first = refl; last = refl; members = λ q. sym (none q) }
-
     -- a list stays where the links of its nodes and its members do
     pub IsList-kept : (get new : N → Option (Link N)) (front back : Option N) (member now : N → Bool) (xs : List N) → ((q : N) → member q ≡ true → new q ≡ get q) → ((q : N) → now q ≡ member q)
         → IsList same get front back member xs → IsList same new front back now xs
@@ -405,9 +401,6 @@ module _ {N : Type 0} where
       pub differ : Differ same xs
       pub first : front ≡ head_or xs None
       pub members : (q : N) → has same q xs ≡ member q
-
-    pub IsRest-whole : (get : N → Option (Link N)) (front back : Option N) (member : N → Bool) (xs : List N) → IsList same get front back member xs → IsRest get front member xs
-    IsRest-whole get front back member xs old = record { before = None; links = old.links; differ = old.differ; first = old.first; members = old.members }
 
     -- the first node of the rest goes
     pub IsRest-dropped : (get new : N → Option (Link N)) (front : Option N) (member now : N → Bool) (x : N) (xs : List N) → ((q : N) → same x q ≡ false → new q ≡ get q)

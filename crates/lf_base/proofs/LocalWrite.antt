@@ -1,20 +1,15 @@
 -- A write to a local row keeps where edges may lead, and each bridge's owning edges.
-use Rattle.std.proofs.Common.{Bool, List, Some, [], ap, arith, cond, false, inl, inr, refl, subst, sym, true, ℕ, ◌&&◌, ◌++◌, ◌+◌, ◌||◌, ◌∙◌, ◌∷◌, ◌≡◌, ◌⊎◌}
-use Rattle.std.proofs.lemmas.List.Sums.{sum_by-append, sum_by-cons}
-use Rattle.std.specs.List.{count_by}
+use Rattle.std.proofs.Common.{List, Some, [], ap, cond, false, inl, inr, refl, subst, sym, true, ◌++◌, ◌∙◌, ◌∷◌, ◌≡◌, ◌⊎◌}
 use Rattle.lf_base.specs.declared.ids.ObjId.{ObjId}
 use Rattle.lf_base.specs.declared.values.Key.{Key}
-use Rattle.lf_base.specs.declared.values.Owner.TheVariants.{Local}
 use Rattle.lf_base.specs.declared.values.Value.{Value}
-use Rattle.lf_base.specs.Edges.{Content, Edge, Field, Slot, Source, content_edges, edges, edges_by, field_targets, row_edges, rows_edges, slot_edges}
+use Rattle.lf_base.specs.Edges.{Edge, Field, content_edges, edges, field_targets, row_edges, rows_edges, slot_edges}
 use Rattle.lf_base.specs.Names.{same_key, same_name, targets_of_value}
-use Rattle.lf_base.specs.Owners.{has_row, or_frozen, owner_in, owner_of, row_at, row_owner}
-use Rattle.lf_base.specs.Ownership.{is_in_other, is_owning, owning_edges}
+use Rattle.lf_base.specs.Owners.{owner_in, row_at, row_owner}
 use Rattle.lf_base.specs.PlainState.{Row, State}
 use Rattle.lf_base.specs.Sets.{Member}
-use Rattle.lf_base.specs.WellFormed.{Leads, from_near, from_row, may_lead}
 use Rattle.lf_base.specs.WriteResult.{put_field, write_fields}
-use Rattle.lf_base.proofs.Counts.{count_middle, sum_same, with_rows}
+use Rattle.lf_base.proofs.Counts.{with_rows}
 use Rattle.lf_base.proofs.Members.{Member_map, Member_of_map}
 use Rattle.lf_base.proofs.Names.{same_name_is}
 use Rattle.lf_base.proofs.Sets.{Member_left, Member_of_append, Member_right}
@@ -77,57 +72,3 @@ edges_write s x k v e h =
         | inr n ↦ inl (Member_right e (slot_edges s.slots) (rows_edges s.rows ++ rest) (Member_right e (rows_edges s.rows) rest n))
       ]
     ]
-
-owner_of_write : (s : State) (x : ObjId) (k : Key) (v : Value) (o : ObjId) → owner_of (written s x k v) o ≡ owner_of s o
-owner_of_write s x k v o = ap (or_frozen (has_row s.given o || has_row s.own o)) (owner_write s.rows x k v o)
-
-may_lead_write : (s : State) (x : ObjId) (k : Key) (v : Value) (from : Source) (to : ObjId) → may_lead (written s x k v) from to ≡ may_lead s from to
-may_lead_write s x k v Slot to = simp (owner_of_write s x k v)
-may_lead_write s x k v (Field p) to = simp (owner_of_write s x k v)
-may_lead_write s x k v (Content c) to = simp (owner_of_write s x k v)
-
-pub leads_write : (s : State) (x : ObjId) (k : Key) (v : Value) → Leads s → owner_in s.rows x ≡ Some Local → ((o : ObjId) → Member o (targets_of_value v) → from_near (owner_of s o) ≡ true) → Leads (written s x k v)
-leads_write s x k v l h n e m =
-    may_lead_write s x k v e.from e.to ∙ elim (edges_write s x k v e m) [
-      | inl q ↦ l e q
-      | inr q ↦ ap (λ f. may_lead s f e.to) q.0 ∙ ap (λ w. from_row (or_frozen (has_row s.given x || has_row s.own x) w) e.to (owner_of s e.to)) h ∙ n e.to q.1
-    ]
-
--- ---- a test that is false at all edges from x counts the same
-none_from_row : (p : Edge → Bool) (x : ObjId) (os : List ObjId) → ((o : ObjId) → p (record { from = Field x; to = o }) ≡ false) → count_by p (edges_by (Field x) os) ≡ 0
-none_from_row p x [] h = refl
-none_from_row p x (o ∷ os) h = omega (arith, sum_by-cons (λ e. cond (p e) 1 0) (record { from = Field x; to = o }) (edges_by (Field x) os), ap {B = ℕ} (λ b. cond b 1 0) (h o), none_from_row p x os h)
-
-count_row_write : (p : Edge → Bool) (r : Row) (x : ObjId) (k : Key) (v : Value) → ((o : ObjId) → p (record { from = Field x; to = o }) ≡ false)
-    → count_by p (row_edges (cond (same_name r.name x) (record r { fields = put_field r.fields k v }) r)) ≡ count_by p (row_edges r)
-count_row_write p r x k v h =
-    elim (same_name r.name x) as (λ b. same_name r.name x ≡ b → count_by p (row_edges (cond b (record r { fields = put_field r.fields k v }) r)) ≡ count_by p (row_edges r)) [
-      | true ↦ λ e. let g : (o : ObjId) → p (record { from = Field r.name; to = o }) ≡ false = λ o. ap (λ n. p (record { from = Field n; to = o })) (same_name_is r.name x e) ∙ h o in
-          none_from_row p r.name (field_targets (put_field r.fields k v)) g ∙ sym (none_from_row p r.name (field_targets r.fields) g)
-      | false ↦ λ e. refl
-    ] refl
-
-count_rows_write : (p : Edge → Bool) (rows : List Row) (x : ObjId) (k : Key) (v : Value) → ((o : ObjId) → p (record { from = Field x; to = o }) ≡ false)
-    → count_by p (rows_edges (write_fields rows x k v)) ≡ count_by p (rows_edges rows)
-count_rows_write p [] x k v h = refl
-count_rows_write p (r ∷ rs) x k v h =
-    let w : Edge → ℕ = λ e. cond (p e) 1 0 in
-    let new : Row = cond (same_name r.name x) (record r { fields = put_field r.fields k v }) r in
-    sum_by-append w (row_edges new) (rows_edges (write_fields rs x k v))
-    ∙ (λ i. count_row_write p r x k v h i + count_rows_write p rs x k v h i)
-    ∙ sym (sum_by-append w (row_edges r) (rows_edges rs))
-
-pub count_write : (p : Edge → Bool) (s : State) (x : ObjId) (k : Key) (v : Value) → ((o : ObjId) → p (record { from = Field x; to = o }) ≡ false) → count_by p (edges (written s x k v)) ≡ count_by p (edges s)
-count_write p s x k v h =
-    let rest : List Edge = content_edges s.held ++ (content_edges s.made ++ (rows_edges s.given ++ rows_edges s.own)) in
-    omega (arith, count_middle p (slot_edges s.slots) (rows_edges s.rows) rest, count_middle p (slot_edges s.slots) (rows_edges (write_fields s.rows x k v)) rest, count_rows_write p s.rows x k v h)
-
-is_owning_write : (rows : List Row) (x : ObjId) (k : Key) (v : Value) (from : Source) (r : ObjId) → is_owning (write_fields rows x k v) from r ≡ is_owning rows from r
-is_owning_write rows x k v Slot r = refl
-is_owning_write rows x k v (Field p) r = ap (is_in_other r) (owner_write rows x k v p)
-is_owning_write rows x k v (Content c) r = refl
-
-pub owning_write : (s : State) (x : ObjId) (k : Key) (v : Value) (r : ObjId) → owner_in s.rows x ≡ Some Local → owning_edges (written s x k v) r ≡ owning_edges s r
-owning_write s x k v r h =
-    sum_same _ _ (λ (e : Edge). ap {B = ℕ} (λ b. cond (b && same_name e.to r) 1 0) (is_owning_write s.rows x k v e.from r)) (edges (written s x k v))
-    ∙ count_write (λ e. is_owning s.rows e.from r && same_name e.to r) s x k v (λ o. ap (λ w. is_in_other r w && same_name o r) h)

@@ -11,7 +11,9 @@ use Rattle.lf_base.specs.PlainState.{Row, State}
 use Rattle.lf_base.specs.Sets.{Member}
 use Rattle.lf_base.specs.WellFormed.{Leads, from_row, may_lead}
 use Rattle.lf_base.proofs.Counts.{Distinct}
-use Rattle.lf_base.proofs.Dropped.{mem_has, row_of, some_is, sub_shrink, sub_within}
+use Rattle.lf_base.proofs.Leaning.{row_of}
+use Rattle.lf_base.proofs.ListParts.{mem_has, sub_shrink, sub_within}
+use Rattle.lf_base.proofs.Tests.{some_is}
 use Rattle.lf_base.proofs.Members.{Member_flat_map, Member_map, Member_of_flat_map, Member_of_map, any_Member}
 use Rattle.lf_base.proofs.Names.{same_name_is, same_name_itself}
 use Rattle.lf_base.proofs.Sets.{Member_left, Member_of_append, Member_right, Within}

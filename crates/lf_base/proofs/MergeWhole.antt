@@ -20,7 +20,9 @@ use Rattle.lf_base.specs.Sets.{Member}
 use Rattle.lf_base.specs.WellFormed.{Leads, WellFormed, from_content, from_frozen, from_inner, from_row, may_lead}
 use Rattle.lf_base.proofs.Climb.{straight_after}
 use Rattle.lf_base.proofs.DissolveWhole.{dissolve_keeps}
-use Rattle.lf_base.proofs.Dropped.{and_join, and_parts, in_region, some_is, sub_all}
+use Rattle.lf_base.proofs.Leaning.{in_region}
+use Rattle.lf_base.proofs.ListParts.{sub_all}
+use Rattle.lf_base.proofs.Tests.{and_join, and_parts, some_is}
 use Rattle.lf_base.proofs.Lookup.{in_is, no_both, owner_is}
 use Rattle.lf_base.proofs.Members.{Member_any, any_Member, or_true}
 use Rattle.lf_base.proofs.Names.{same_name_is, same_name_itself}

@@ -16,7 +16,9 @@ use Rattle.lf_base.specs.PlainState.{Row, State}
 use Rattle.lf_base.specs.Sets.{Differ, Member}
 use Rattle.lf_base.specs.WriteResult.{put_field, relabel, write_fields}
 use Rattle.lf_base.proofs.Counts.{Distinct}
-use Rattle.lf_base.proofs.Dropped.{and_join, and_parts, mem_has, row_of}
+use Rattle.lf_base.proofs.Leaning.{row_of}
+use Rattle.lf_base.proofs.ListParts.{mem_has}
+use Rattle.lf_base.proofs.Tests.{and_join, and_parts}
 use Rattle.lf_base.proofs.Least.{Grows, least_closed}
 use Rattle.lf_base.proofs.Lookup.{edge_row, named, no_both, owner_mem}
 use Rattle.lf_base.proofs.Members.{Member_any, Member_map, any_Member, any_more, or_true}

@@ -15,7 +15,7 @@ use Rattle.lf_base.specs.PlainChanges.{insert_row, next_object, with_row}
 use Rattle.lf_base.specs.PlainState.{Row, State}
 use Rattle.lf_base.specs.Sets.{Differ, Member}
 use Rattle.lf_base.specs.WellFormed.{IsNumber, Leads, WellFormed, all_names, content_values, field_values, from_content, from_near, from_row, may_lead, own_cowns, slot_values}
-use Rattle.lf_base.proofs.Dropped.{and_parts, some_is}
+use Rattle.lf_base.proofs.Tests.{and_parts, some_is}
 use Rattle.lf_base.proofs.Goes.{any_none, none_count}
 use Rattle.lf_base.proofs.InsertedRows.{inserted, inserted_differ, inserted_edges, inserted_name, inserted_order, inserted_owner, inserted_values}
 use Rattle.lf_base.proofs.Lookup.{in_is, no_both, owner_has}

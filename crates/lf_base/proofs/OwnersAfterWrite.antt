@@ -13,12 +13,13 @@ use Rattle.lf_base.specs.Sets.{Member}
 use Rattle.lf_base.specs.WellFormed.{SlotMayHold, WellFormed}
 use Rattle.lf_base.specs.WriteResult.{is_at, put_field, relabel, write_fields}
 use Rattle.lf_base.proofs.Climb.{OwnsMore, round_after, straight_after}
-use Rattle.lf_base.proofs.Counts.{Distinct, with_rows}
-use Rattle.lf_base.proofs.Dropped.{and_parts, in_region, some_is}
+use Rattle.lf_base.proofs.Counts.{with_rows}
+use Rattle.lf_base.proofs.Leaning.{in_region}
+use Rattle.lf_base.proofs.Tests.{and_parts, some_is}
 use Rattle.lf_base.proofs.Goes.{at_content, at_frozen, at_row, at_slot, begins}
 use Rattle.lf_base.proofs.Lookup.{edge_row, in_is, no_both, owner_is, row_edge}
 use Rattle.lf_base.proofs.Members.{Member_map}
-use Rattle.lf_base.proofs.MovedRows.{differ_rows, edges_relabel, moved_names}
+use Rattle.lf_base.proofs.MovedRows.{edges_relabel, moved_names}
 use Rattle.lf_base.proofs.Names.{same_name_is, same_name_itself}
 use Rattle.lf_base.proofs.OwnersGoRound.{none_above, owns_before, round_none}
 use Rattle.lf_base.proofs.Quiet.{in_not_local}
@@ -93,9 +94,6 @@ module _ (s : State) (t : WellFormed s) (x : ObjId) (k : Key) (v : Value) (home 
             let same : f.name ≡ x = field_is f.name x (sym f.is ∙ o.0) in
             absurd (no_both _ (ap (λ z. same_name z home) (in_is q home (owner_is s.rows x (In q) (In home) (ap (owner_in s.rows) (sym same) ∙ own) at)) ∙ same_name_itself home) n)
       ]) w
-
-  distinct : Distinct s.rows
-  distinct = differ_rows s.rows _ t.names_differ
 
   -- an edge from a mutable row is one of the mutable rows
   row_edge_of : (e : Edge) (p q : ObjId) → Member e (edges s) → e.from ≡ Field p → owner_in s.rows p ≡ Some (In q) → Member e (rows_edges s.rows)

@@ -9,7 +9,8 @@ use Rattle.lf_base.specs.Owners.{bridges, is_bridge, is_in, owner_in}
 use Rattle.lf_base.specs.Ownership.{Above, NoRound, direct, is_from, owns, round, step}
 use Rattle.lf_base.specs.PlainState.{Row, State}
 use Rattle.lf_base.specs.Sets.{Member}
-use Rattle.lf_base.proofs.Dropped.{and_join, and_parts, in_region, not_false, row_of}
+use Rattle.lf_base.proofs.Leaning.{in_region, row_of}
+use Rattle.lf_base.proofs.Tests.{and_join, and_parts, not_false}
 use Rattle.lf_base.proofs.Lookup.{no_both}
 use Rattle.lf_base.proofs.Members.{Member_any, Member_map, any_Member, any_more, or_true}
 use Rattle.lf_base.proofs.Names.{same_name_is, same_name_itself}

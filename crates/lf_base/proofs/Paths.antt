@@ -15,7 +15,8 @@ use Rattle.lf_base.specs.Ownership.{Above, below, direct, owns, step}
 use Rattle.lf_base.specs.PlainState.{Row, State}
 use Rattle.lf_base.specs.Sets.{Member, grow, least}
 use Rattle.lf_base.specs.WalkCounts.{borrowed, is_open}
-use Rattle.lf_base.proofs.Dropped.{Sub, and_parts, sub_filter}
+use Rattle.lf_base.proofs.ListParts.{Sub, sub_filter}
+use Rattle.lf_base.proofs.Tests.{and_parts}
 use Rattle.lf_base.proofs.Least.{Grows, least_closed, least_in}
 use Rattle.lf_base.proofs.Members.{Member_any, any_Member, any_more, or_true}
 use Rattle.lf_base.proofs.MovedRows.{move_start, move_step}

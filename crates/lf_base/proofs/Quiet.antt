@@ -12,7 +12,7 @@ use Rattle.lf_base.specs.Ownership.{is_in_other, owning_edges}
 use Rattle.lf_base.specs.PlainState.{State}
 use Rattle.lf_base.specs.WellFormed.{Leads, WellFormed, from_frozen, from_inner, from_near, from_row, may_lead}
 use Rattle.lf_base.specs.WriteResult.{fault_shown, first_shown, is_some_list, leads_inside, shows_interior}
-use Rattle.lf_base.proofs.Dropped.{and_join, and_parts, some_is}
+use Rattle.lf_base.proofs.Tests.{and_join, and_parts, some_is}
 use Rattle.lf_base.proofs.Goes.{any_none}
 use Rattle.lf_base.proofs.Lookup.{no_both, to_local}
 use Rattle.lf_base.proofs.Sets.{Member_of_filter}

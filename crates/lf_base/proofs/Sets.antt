@@ -92,10 +92,3 @@ module _ {X : Type 0} (stays : List X → X → Bool) where
 
   pub greatest_has : Monotone → (xs ys : List X) → Meets ys → Within ys xs → Within ys (greatest stays xs)
   greatest_has mono xs ys m w = shrink_has mono (length xs) xs ys m w
-
-  pub union_meets : Monotone → (xs ys : List X) → Meets xs → Meets ys → Meets (xs ++ ys)
-  union_meets mono xs ys a b x h =
-      elim (Member_of_append x xs ys h) [
-        | inl k ↦ mono xs (xs ++ ys) x (λ z m. Member_left z xs ys m) (a x k)
-        | inr k ↦ mono ys (xs ++ ys) x (λ z m. Member_right z xs ys m) (b x k)
-      ]

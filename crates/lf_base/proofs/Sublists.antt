@@ -5,7 +5,7 @@ use Rattle.std.specs.List.{count_by, flat_map}
 use Rattle.lf_base.specs.declared.ids.ObjId.{ObjId}
 use Rattle.lf_base.specs.Names.{name_below}
 use Rattle.lf_base.specs.Sets.{Differ, InOrder, Member}
-use Rattle.lf_base.proofs.Dropped.{Sub, none, pass, sub_all, sub_within, take}
+use Rattle.lf_base.proofs.ListParts.{Sub, none, pass, sub_all, sub_within, take}
 use Rattle.lf_base.proofs.Lookup.{no_both}
 use Rattle.lf_base.proofs.Members.{any_more}
 use Rattle.lf_base.proofs.PairOrder.{is_pair_below, pair_below}

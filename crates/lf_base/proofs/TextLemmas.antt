@@ -36,11 +36,6 @@ text_at-place_of texts text there =
     unwrap_or-slice_get texts (place_of texts text) []
     ∙ sym (bytes_eq_same text (get_or texts (place_of texts text) []) (passes_at_first (bytes_eq text) texts [] (place_of_within texts text there)))
 
--- texts that are there and have one place are equal
-pub place_of_same : (texts : List Text) (s t : Text) → list_any (bytes_eq s) texts ≡ true → list_any (bytes_eq t) texts ≡ true → place_of texts s ≡ place_of texts t → s ≡ t
-place_of_same texts s t s_there t_there same =
-    sym (text_at-place_of texts s s_there) ∙ ap (text_at texts) same ∙ text_at-place_of texts t t_there
-
 -- what is there stays there, at its place, when texts come behind it
 pub list_any_grows : (texts more : List Text) (text : Text) → list_any (bytes_eq text) texts ≡ true → list_any (bytes_eq text) (texts ++ more) ≡ true
 list_any_grows texts more text there = list_any-append (bytes_eq text) texts more ∙ ap (λ b. b || list_any (bytes_eq text) more) there
@@ -112,23 +107,6 @@ place_of-with_text texts after text g =
     by_test true e = refl
     by_test false e = at_end texts e
 
--- what the texts of a script have: each seen one, and the first ones at their places
-pub list_any-seen : (base seen : List Text) (text : Text) → list_any (bytes_eq text) seen ≡ true → list_any (bytes_eq text) (with_texts base seen) ≡ true
-list_any-seen base [] text there = cc
-list_any-seen base (s ∷ seen) text there = by_test (list_any-seen (with_text base s) seen text) (bytes_eq text s) refl there
-  where
-    by_test : (list_any (bytes_eq text) seen ≡ true → list_any (bytes_eq text) (with_texts (with_text base s) seen) ≡ true)
-        → (b : Bool) → bytes_eq text s ≡ b → (b || list_any (bytes_eq text) seen) ≡ true → list_any (bytes_eq text) (with_texts (with_text base s) seen) ≡ true
-    by_test later true e h = list_any_kept (with_text base s) (with_texts (with_text base s) seen) text (grows-with_texts (with_text base s) seen)
-        (ap (λ t. list_any (bytes_eq text) (with_text base t)) (sym (bytes_eq_same text s e)) ∙ list_any-with_text base text)
-    by_test later false e h = later h
-
-pub list_any-base : (base seen : List Text) (text : Text) → list_any (bytes_eq text) base ≡ true → list_any (bytes_eq text) (with_texts base seen) ≡ true
-list_any-base base seen text = list_any_kept base (with_texts base seen) text (grows-with_texts base seen)
-
-pub place_of-base : (base seen : List Text) (text : Text) → list_any (bytes_eq text) base ≡ true → place_of (with_texts base seen) text ≡ place_of base text
-place_of-base base seen text = place_of_kept base (with_texts base seen) text (grows-with_texts base seen)
-
 -- no text comes twice
 pub place_of-text_at : (texts : List Text) (place : ℕ) → Differ texts → place < length texts → place_of texts (text_at texts place) ≡ place
 place_of-text_at texts place differ within =
@@ -172,10 +150,6 @@ Differ-with_texts texts (text ∷ seen) differ = Differ-with_texts (with_text te
 
 pub Differ-none : Differ []
 Differ-none i j i_lt j_lt same = absurd (omega arith)
-
--- seen one after another, the fixed texts are the fixed texts
-pub fixed_texts_are : with_texts [] fixed_texts ≡ fixed_texts
-fixed_texts_are = refl
 
 pub Differ-fixed_texts : Differ fixed_texts
 Differ-fixed_texts = Differ-with_texts [] fixed_texts Differ-none

@@ -15,7 +15,8 @@ use Rattle.lf_base.specs.Suspects.{AllHang, Bare, Hangs, LeadsTo, MustGo, Object
 use Rattle.lf_base.specs.WalkCounts.{is_borrower}
 use Rattle.lf_base.specs.WellFormed.{Leads, from_row}
 use Rattle.lf_base.proofs.Counts.{Distinct}
-use Rattle.lf_base.proofs.Dropped.{and_join, mem_has, some_is}
+use Rattle.lf_base.proofs.ListParts.{mem_has}
+use Rattle.lf_base.proofs.Tests.{and_join, some_is}
 use Rattle.lf_base.proofs.Lookup.{EdgeRow, edge_in, edge_row, in_is, kept_in, kept_stays, named, no_both, owner_has, owner_is, owner_mem, row_edge, row_leads, to_region}
 use Rattle.lf_base.proofs.Members.{Member_any}
 use Rattle.lf_base.proofs.Names.{same_name_is, same_name_itself}

@@ -16,7 +16,8 @@ use Rattle.lf_base.specs.Suspects.{AllHang, Bare, Object, Region, Suspect}
 use Rattle.lf_base.specs.WalkCounts.{is_borrower}
 use Rattle.lf_base.specs.WellFormed.{from_content, from_near, from_row, may_lead}
 use Rattle.lf_base.proofs.Counts.{Distinct}
-use Rattle.lf_base.proofs.Dropped.{and_join, and_parts, any_weaker, mem_has, not_false, or_map, sub_filter, sub_same, sub_shrink, sub_then}
+use Rattle.lf_base.proofs.ListParts.{mem_has, sub_filter, sub_same, sub_shrink, sub_then}
+use Rattle.lf_base.proofs.Tests.{and_join, and_parts, any_weaker, not_false, or_map}
 use Rattle.lf_base.proofs.Hanging.{settled}
 use Rattle.lf_base.proofs.Lookup.{edge_row, kept_in, no_both, owner_there}
 use Rattle.lf_base.proofs.Members.{Member_of_flat_map, Member_of_map, Within_append, Within_flat_map, any_more, or_true}
@@ -76,9 +77,6 @@ module _ (s : State) (g : Setting s) (gone : ObjId → Bool) (c : CanGo s gone) 
 
   rest_stays : (x : Row) → Member x rest.rows → gone x.name ≡ false
   rest_stays x m = not_true _ (Member_of_filter (λ (r : Row). not (gone r.name)) x s.rows m).1
-
-  rest_near : Within (slot_edges s.slots ++ rows_edges rest.rows) (slot_edges s.slots ++ rows_edges s.rows)
-  rest_near = Within_append (slot_edges s.slots) (slot_edges s.slots) (rows_edges rest.rows) (rows_edges s.rows) (λ x h. h) (Within_flat_map row_edges rest.rows s.rows rest_rows)
 
   rest_edges : Within (edges rest) (edges s)
   rest_edges = Within_append (slot_edges s.slots) (slot_edges s.slots) _ _ (λ x h. h)
@@ -229,11 +227,6 @@ module _ (s : State) (g : Setting s) (gone : ObjId → Bool) (c : CanGo s gone) 
   round_without = round_before s rest (owns_within s rest rest_edges (λ q p e. show (is_in q) refl s.rows gone p e))
 
   -- ---- what is watched stays watched
-  near_less : (o : ObjId) → points rest.rows rest o ≡ true → points s.rows s o ≡ true
-  near_less o = any_more (λ (d : Edge). same_name d.to o) (slot_edges s.slots ++ rows_edges rest.rows) (slot_edges s.slots ++ rows_edges s.rows) rest_near
-
-  not_object : (p o : ObjId) → Object p ≡ Object o → p ≡ o
-  not_object p o e = cc
 
   later : (u : Suspect) (new w : List Suspect) (o : ObjId) → Spent gone u → gone o ≡ false → Member (Object o) (u ∷ w) → Member (Object o) (new ++ w)
   later u new w o p n (inl e) = absurd (no_both _ (subst (Spent gone) e p) n)

@@ -17,7 +17,8 @@ use Rattle.lf_base.specs.WellFormed.{Leads, SlotMayHold, WellFormed, field_value
 use Rattle.lf_base.specs.WriteResult.{fault_shown, is_at, is_inner_source, leads_inside, moved, put_field, refusal_by, relabel, shows_interior, shows_round, shows_two, write_fields, write_refusal, write_result}
 use Rattle.lf_base.proofs.Counts.{Distinct, with_rows}
 use Rattle.lf_base.proofs.CownNames.{cowns_from, relabel_values, values_by_rows, write_values}
-use Rattle.lf_base.proofs.Dropped.{in_region, row_of, some_is}
+use Rattle.lf_base.proofs.Leaning.{in_region, row_of}
+use Rattle.lf_base.proofs.Tests.{some_is}
 use Rattle.lf_base.proofs.Goes.{at_content, at_frozen, at_row, at_slot, begins, none_any}
 use Rattle.lf_base.proofs.LocalWrite.{IsNew, edges_write, owner_write}
 use Rattle.lf_base.proofs.Lookup.{in_is, no_both, owner_has, owner_mem}

@@ -26,10 +26,6 @@ map_step f xs i d h = sym (map-append f (take i xs) (get_or xs i d ∷ [])) ∙ 
 pub map_item : {X A : Type 0} (f : X → A) (xs : List X) (i : ℕ) (x : X) → i < length xs → x ≡ get_or xs i x → map f (take i xs) ++ f x ∷ [] ≡ map f (take (i + 1) xs)
 map_item f xs i x h e = ap (λ y. map f (take i xs) ++ f y ∷ []) e ∙ map_step f xs i x h
 
-pub flat_item : {X Y A : Type 0} (g : A → Y → A) (f : X → List Y) (a : A) (xs : List X) (i : ℕ) (x : X) → i < length xs → x ≡ get_or xs i x
-    → fold g (fold g a (flat_map f (take i xs))) (f x) ≡ fold g a (flat_map f (take (i + 1) xs))
-flat_item g f a xs i x h e = ap (λ y. fold g (fold g a (flat_map f (take i xs))) (f y)) e ∙ fold_flat_step g f a xs i x h
-
 -- one item more was folded in, by what a call says of it
 pub folded : {X Y A : Type 0} (g : A → Y → A) (f : X → List Y) (a : A) (xs : List X) (i : ℕ) (d : X) → i < length xs → (old new : A)
     → new ≡ fold g old (f (get_or xs i d)) → old ≡ fold g a (flat_map f (take i xs)) → new ≡ fold g a (flat_map f (take (i + 1) xs))

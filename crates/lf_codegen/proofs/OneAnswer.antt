@@ -5,7 +5,7 @@ use Rattle.lf_base.specs.declared.refusals.Place.{Place}
 use Rattle.lf_base.specs.declared.refusals.Refusal.{Refusal}
 use Rattle.lf_base.specs.Sets.{Member}
 use Rattle.lf_base.specs.Texts.{Text}
-use Rattle.lf_base.proofs.Dropped.{and_join}
+use Rattle.lf_base.proofs.Tests.{and_join}
 use Rattle.lf_lexer.specs.declared.tokens.Token.{Token}
 use Rattle.lf_lexer.specs.Reading.{Spells}
 use Rattle.lf_lexer.proofs.LineOrders.{tokens_on_lines}

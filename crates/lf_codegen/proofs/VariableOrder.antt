@@ -2,7 +2,7 @@
 use Rattle.std.proofs.Common.{◌≡◌, List, [], ◌∷◌, ◌++◌, true, false, cond, fold, map, flat_map, sym, subst, append_assoc, append-nil, inl, inr}
 use Rattle.std.proofs.lemmas.List.{map-append}
 use Rattle.lf_base.specs.Sets.{Member}
-use Rattle.lf_base.proofs.Dropped.{Sub, none, take, pass, sub_all, sub_then}
+use Rattle.lf_base.proofs.ListParts.{Sub, none, take, pass, sub_all, sub_then}
 use Rattle.lf_base.proofs.Members.{Member_of_map, Member_of_flat_map}
 use Rattle.lf_base.proofs.Sets.{Member_of_append}
 use Rattle.lf_base.proofs.Sublists.{sub_append, sub_before}

@@ -4,7 +4,7 @@ use Rattle.std.proofs.lemmas.Bool.{eq-eqb, lt-ltb}
 use Rattle.std.proofs.lemmas.List.{map-append}
 use Rattle.std.proofs.lemmas.List.Sums.{sum_by-cons}
 use Rattle.lf_base.specs.Sets.{Member}
-use Rattle.lf_base.proofs.Dropped.{Sub, none, take, pass}
+use Rattle.lf_base.proofs.ListParts.{Sub, none, take, pass}
 use Rattle.lf_base.proofs.Sublists.{sub_append, count_sub}
 use Rattle.lf_parser.specs.Plain.{PlainStmt, PlainBlock, PlainFunction, PlainTree, no_stmts, stmt}
 use Rattle.lf_parser.specs.Plain as plain

@@ -35,9 +35,6 @@ moved_after last new old o w same d moved v = moved v ∙ same_moved new old o w
 pub new_in_empty : (new old : List CountedRow) (o : ObjId) → SameByOwner new old → old ≡ [] → IsNewName new o
 new_in_empty new old o same e = found_after new [] o (λ w. same w ∙ ap (rows_of w) e) tt
 
-pub row_after_empty : (last new old : List CountedRow) (row : CountedRow) → SameByOwner new old → old ≡ [] → SameByOwner last (new ++ row ∷ []) → SameByOwner last (row ∷ [])
-row_after_empty last new old row same e rows w = rows w ∙ same_append new [] (λ v. same v ∙ ap (rows_of v) e) (row ∷ []) w
-
 -- one row counts less, and the others stay
 lowered_differ : (rows : List CountedRow) (o : ObjId) → NamesDiffer rows → NamesDiffer (lowered rows o)
 lowered_differ rows o d = subst (Differ same_name) (sym (names_map _ (at_keeps_name o (λ r. with_refs (r.refs - 1) r) (λ r. refl)) rows)) d

@@ -223,13 +223,6 @@ one_dropped m n o first (x ∷ xs) some step old =
           (λ k. only_here m n o x (λ _. None) drop is_some k) old;
     }
 
-pub none_left : (m : CellsAt) (o : ObjId) (first : Option Key) (rest : List Key) → length rest ≡ 0 → FieldsLeft m o first rest → (k : Key) → m o k ≡ None
-none_left m o first [] none old k = none_is (m o k) (sym (old.members k)) where
-  none_is : (x : Option Cell) → is_some x ≡ false → x ≡ None
-  none_is None e = refl
-  none_is (Some c) e = cc
-none_left m o first (x ∷ xs) none old k = absurd (omega arith)
-
 -- ---- a row has no more fields than the table has cells
 
 names_equal : IsEquivalence same_field

@@ -10,7 +10,7 @@ use Rattle.lf_graph.specs.declared.stored_row.Linked.{Linked}
 use Rattle.lf_graph.specs.declared.stored_row.StoredRow.{StoredRow}
 use Rattle.lf_graph.specs.declared.ends.Ends.{Ends}
 use Rattle.lf_base.specs.Links.{link, head_or, to_next, to_prev, relinked, unlinked, IsList, front_with, or_else}
-use Rattle.lf_graph.specs.Chains.{head_at, link_at, owner_at, owner_of_head, row_at, row_of_head, ends_at, Relinks, OnlyRowAt, OnlyStoredAt}
+use Rattle.lf_graph.specs.Chains.{head_at, link_at, owner_at, owner_of_head, row_of_head, ends_at, Relinks}
 use Rattle.lf_graph.specs.Chains.{has, is_of, without, after, ends_with, ends_without, IsChain, AreChains}
 use Rattle.lf_graph.proofs.Reordered.{owner_is, owner_itself}
 use Rattle.lf_base.proofs.LinkedLists.{IsList-after, IsList-end, IsList-kept, IsList-neighbours, IsList-pushed, IsList-unlinked, Lacks-from_has, members_apart, relinked-agree, relinked_away, without-lacking}
@@ -225,33 +225,9 @@ pub AreChains-same : (m n : ObjId → Option Linked) (e f : Owner → Option End
     → ((q : ObjId) → head_at n q ≡ head_at m q) → ((w : Owner) → ends_at f w ≡ ends_at e w) → AreChains m e L → AreChains n f L
 AreChains-same m n e f L h = AreChains-kept m n e f L (λ q. ap (option_map (λ (x : Linked). x.link)) (h q)) (λ q. ap owner_of_head (h q))
 
--- a table without rows
-pub AreChains-empty : (m : ObjId → Option Linked) (e : Owner → Option Ends) → ((o : ObjId) → m o ≡ None) → ((w : Owner) → e w ≡ None) → AreChains m e (λ _. [])
-AreChains-empty m e rows ends w = record {
-  links = tt;
-  differ = tt;
-  first = ap first_of (ends w);
-  last = ap last_of (ends w);
-  members = λ q. ap (λ t. is_of w (owner_of_head t)) (sym (rows q));
-}
-
 pub none_kept : (t : Option Linked) → row_of_head t ≡ None → t ≡ None
 none_kept None e = refl
 none_kept (Some h) e = cc
-
--- which rows are kept, where a new one is linked in
-pub rows_pushed : (m m1 m3 : ObjId → Option Linked) (o : ObjId) (head : Linked) (at : Option ObjId) (f : Link ObjId → Link ObjId) → Relinks m m1 at f → OnlyRowAt m1 m3 o (Some head) → OnlyStoredAt m m3 o (Some head.row)
-rows_pushed m m1 m3 o head at f step put q = ap row_of_head (put q) ∙ (elim (same_name o q) as (λ b. row_of_head (cond b (Some head) (head_at m1 q)) ≡ cond b (Some head.row) (row_at m q)) [
-  | true ↦ refl
-  | false ↦ step.rows q
-])
-
--- and where one is taken out
-pub rows_left : (m m1 m2 m3 : ObjId → Option Linked) (o : ObjId) (at to : Option ObjId) (f g : Link ObjId → Link ObjId) → OnlyRowAt m m1 o None → Relinks m1 m2 at f → Relinks m2 m3 to g → OnlyStoredAt m m3 o None
-rows_left m m1 m2 m3 o at to f g gone one two q = two.rows q ∙ one.rows q ∙ ap row_of_head (gone q) ∙ (elim (same_name o q) as (λ b. row_of_head (cond b None (head_at m q)) ≡ cond b None (row_at m q)) [
-  | true ↦ refl
-  | false ↦ refl
-])
 
 pub no_row : (t : Option Linked) → t ≡ None → row_of_head t ≡ None
 no_row t e = ap row_of_head e

@@ -10,7 +10,7 @@ use Rattle.lf_base.proofs.Names.{same_name_is}
 use Rattle.lf_graph.specs.declared.ends.Ends.{Ends}
 use Rattle.lf_graph.specs.declared.stored_row.Linked.{Linked}
 use Rattle.lf_graph.specs.declared.stored_row.StoredRow.{StoredRow}
-use Rattle.lf_graph.specs.Chains.{AreChains, OnlyRowAt, OnlyStoredAt, Relinks, link_at, owner_at, owner_of_head, row_at, row_of_head}
+use Rattle.lf_graph.specs.Chains.{AreChains, OnlyRowAt, Relinks, link_at, owner_at, owner_of_head, row_at}
 use Rattle.lf_graph.proofs.ChainLemmas.{AreChains-kept}
 
 same_either : {X : Type 0} (b : Bool) (x : X) → cond b x x ≡ x
@@ -35,12 +35,6 @@ Relinks-written m n at o h f a v w = record {
 
 -- one row is replaced by one of its owner
 module _ (m n : ObjId → Option Linked) (e : Owner → Option Ends) (o : ObjId) (h : Linked) (row : StoredRow) (v : Some h ≡ m o) (owned : row.owner ≡ (h.row).owner) (w : OnlyRowAt m n o (Some (record h { row = row }))) where
-  pub rows_replaced : OnlyStoredAt m n o (Some row)
-  rows_replaced q = ap row_of_head (w q) ∙ (elim (same_name o q) as (λ b. row_of_head (cond b (Some (record h { row = row })) (m q)) ≡ cond b (Some row) (row_at m q)) [
-    | true ↦ refl
-    | false ↦ refl
-  ])
-
   links_stay : (q : ObjId) → link_at n q ≡ link_at m q
   links_stay q = part_written m n o h (record h { row = row }) w v (λ x. x.link) (λ x. x) refl q ∙ same_either (same_name o q) (link_at m q)
 

@@ -70,16 +70,6 @@ pub record Puts (old now : CellsAt) (o : ObjId) (ends : FieldEnds) (fields : Lis
   pub values : pairs now o (keys_of (take i fields)) ≡ take i fields
   pub others : OthersStay old now o
 
-lacks_push : (x y : Key) (xs : List Key) → Lacks same_key x xs → same_key x y ≡ false → Lacks same_key x (xs ++ y ∷ [])
-lacks_push x y [] l n = (n, tt)
-lacks_push x y (z ∷ zs) l n = (l.0, lacks_push x y zs l.1 n)
-
-lacks_taken : (x : Key) (fields : List (Key × Value)) (i : ℕ) → Lacks same_key x (keys_of fields) → Lacks same_key x (keys_of (take i fields))
-lacks_taken x [] zero l = tt
-lacks_taken x [] (suc i) l = tt
-lacks_taken x (f ∷ fs) zero l = tt
-lacks_taken x (f ∷ fs) (suc i) l = (l.0, lacks_taken x fs i l.1)
-
 lacks_found : (x : Key) (fields : List (Key × Value)) (i : ℕ) (f : Key × Value) → Lacks same_key x (keys_of fields) → slice_get fields i ≡ Some f → same_key x f.0 ≡ false
 lacks_found x [] i f l e = cc
 lacks_found x (g ∷ gs) zero f l e = let same : g ≡ f = cc in ap (λ (t : Key × Value). same_key x t.0) (sym same) ∙ l.0

@@ -15,7 +15,7 @@ use Rattle.lf_base.specs.PlainChanges.{insert_row}
 use Rattle.lf_base.specs.PlainState.{Row}
 use Rattle.lf_base.specs.Sets.{Differ, InOrder, Member}
 use Rattle.lf_base.specs.WriteResult.{is_at, relabel}
-use Rattle.lf_base.proofs.Dropped.{sub_filter}
+use Rattle.lf_base.proofs.ListParts.{sub_filter}
 use Rattle.lf_base.proofs.Members.{Member_map}
 use Rattle.lf_base.proofs.MovedRows.{has_names}
 use Rattle.lf_base.proofs.Names.{same_name_is, same_name_itself}
@@ -103,10 +103,6 @@ plain_filter p (c ∷ cs) =
       | true ↦ ap (λ l. c.row ∷ l) (plain_filter p cs)
       | false ↦ plain_filter p cs
     ]
-
-pub plain_append : (xs ys : List CountedRow) → plain (xs ++ ys) ≡ plain xs ++ plain ys
-plain_append [] ys = refl
-plain_append (x ∷ xs) ys = ap (λ l. x.row ∷ l) (plain_append xs ys)
 
 pub names_map : (f : CountedRow → CountedRow) → ((c : CountedRow) → ((f c).row).name ≡ (c.row).name) → (rows : List CountedRow) → names (plain (map f rows)) ≡ names (plain rows)
 names_map f keeps [] = refl

@@ -9,7 +9,7 @@ use Rattle.lf_base.specs.Names.{same_name, same_owner}
 use Rattle.lf_base.specs.Owners.{has_name, names}
 use Rattle.lf_base.specs.PlainState.{Row}
 use Rattle.lf_base.specs.Sets.{Member}
-use Rattle.lf_base.proofs.Dropped.{sub_filter}
+use Rattle.lf_base.proofs.ListParts.{sub_filter}
 use Rattle.lf_base.proofs.Members.{or_true}
 use Rattle.lf_base.proofs.Names.{same_name_is, same_name_itself}
 use Rattle.lf_base.proofs.Sets.{Member_of_filter, Member_right}
@@ -82,10 +82,6 @@ two_found rows w o d e =
           let one : (c.row).name ≡ o = cc in
           subst (λ n. both n (name_after (rows_beside rows n) n) ≡ both (c.row).name (first_name cs)) one (ap (both (c.row).name) (next_is rows [] cs w c d is))
     ] refl e
-
-pub none_first : (xs : List CountedRow) → first_name xs ≡ None → None ≡ two_names xs
-none_first [] e = refl
-none_first (c ∷ cs) e = cc
 
 -- ---- parts
 filter_both : {X : Type 0} (p : X → Bool) (xs : List X) → filter p (filter p xs) ≡ filter p xs

@@ -10,13 +10,13 @@ use Rattle.lf_lexer.specs.declared.lexed.Lexed.{Lexed}
 use Rattle.lf_lexer.specs.declared.line_start.LineStart.{LineStart}
 use Rattle.lf_lexer.specs.Places.{token_at}
 use Rattle.lf_lexer.specs.Lexed.{with_token}
-use Rattle.lf_lexer.specs.Pieces.{Form, level_opens, level_closes, script_end, Piece}
+use Rattle.lf_lexer.specs.Pieces.{Form, level_opens, level_closes, Piece}
 use Rattle.lf_lexer.specs.Levels.{innermost, is_level, Closes, Indents, IndentRefused}
 use Rattle.lf_lexer.specs.Levels as levels_spec
 use Rattle.lf_lexer.specs.Reading.{empty_piece, closing}
 use Rattle.lf_lexer.specs.Refusals.{refusal_at}
 use Rattle.lf_lexer.specs.Lexing.{Adds, Descend, ClosesDown, LexesIndent, RefusedIndent}
-use Rattle.lf_lexer.proofs.Adding.{adds_none, adds_on, adds_empty}
+use Rattle.lf_lexer.proofs.Adding.{adds_on, adds_empty}
 
 -- the levels that closed so far
 pub record ClosedSoFar (line : LineStart) (indent : ℕ) (levels now : List ℕ) (old new : Lexed) : Type 0 where
@@ -25,15 +25,6 @@ pub record ClosedSoFar (line : LineStart) (indent : ℕ) (levels now : List ℕ)
   pub on : (left : List ℕ) (others : List Form) → Closes indent now left others → Closes indent levels left (forms ++ others)
   pub no_level : is_level indent now ≡ false → is_level indent levels ≡ false
   pub adds : Adds old new (map (empty_piece line indent) forms)
-
-pub closed_start : (line : LineStart) (indent : ℕ) (levels : List ℕ) (old : Lexed) → Descend levels → ClosedSoFar line indent levels levels old old
-closed_start line indent levels old descend = record {
-  forms = [];
-  descend = descend;
-  on = λ left others closes. closes;
-  no_level = λ is. is;
-  adds = adds_none old;
-}
 
 pub closed_more : (line : LineStart) (indent : ℕ) (levels now : List ℕ) (old new newer : Lexed) → indent < innermost now
     → newer ≡ with_token new (token_at line indent lexeme.Dedent 0) → ClosedSoFar line indent levels now old new → ClosedSoFar line indent levels (drop 1 now) old newer
@@ -51,10 +42,6 @@ closed_more line indent levels (level ∷ now) old new newer lt is s = record {
       (adds_on old new newer (map (empty_piece line indent) s.forms) (empty_piece line indent level_closes ∷ []) s.adds
       (adds_empty new newer line indent level_closes lexeme.Dedent refl (λ after. refl) is));
 }
-
-pub closed_end : (line : LineStart) (indent : ℕ) (levels now : List ℕ) (old new : Lexed) → innermost now ≤ indent → ClosedSoFar line indent levels now old new
-    → ClosesDown line indent levels now old new
-closed_end line indent levels now old new low s = record { forms = s.forms; low = low; descend = s.descend; on = s.on; no_level = s.no_level; adds = s.adds }
 
 -- the indentation is a level
 pub indent_met : (line : LineStart) (indent : ℕ) (levels now : List ℕ) (old new : Lexed) → ClosesDown line indent levels now old new → innermost now ≡ indent
@@ -110,9 +97,6 @@ pub record ClosingSoFar (size last : ℕ) (levels now : List ℕ) (old new : Lex
   pub split : closing size last levels ≡ pieces ++ closing size last now
   pub adds : Adds old new pieces
 
-pub closing_start : (size last : ℕ) (levels : List ℕ) (old : Lexed) → ClosingSoFar size last levels levels old old
-closing_start size last levels old = record { pieces = []; split = refl; adds = adds_none old }
-
 pub closing_more : (size last : ℕ) (line : LineStart) (levels now : List ℕ) (old new newer : Lexed) → line ≡ record { number = last + 1; start = size } → 0 < length now
     → newer ≡ with_token new (token_at line 0 lexeme.Dedent 0) → ClosingSoFar size last levels now old new → ClosingSoFar size last levels (drop 1 now) old newer
 closing_more size last line levels [] old new newer line_is some is s = absurd (omega arith)
@@ -126,13 +110,3 @@ closing_more size last line levels (level ∷ now) old new newer line_is some is
           (adds_empty new newer (record { number = last + 1; start = size }) 0 level_closes lexeme.Dedent refl (λ after. refl)
           (is ∙ ap (λ (l : LineStart). with_token new (token_at l 0 lexeme.Dedent 0)) line_is));
     }
-
-pub closing_end : (size last : ℕ) (line : LineStart) (levels now : List ℕ) (old new newer : Lexed) → line ≡ record { number = last + 1; start = size } → ¬ (0 < length now)
-    → newer ≡ with_token new (token_at line 0 lexeme.End 0) → ClosingSoFar size last levels now old new → Adds old newer (closing size last levels)
-closing_end size last line levels (level ∷ now) old new newer line_is none is s = absurd (none (omega arith))
-closing_end size last line levels [] old new newer line_is none is s =
-    let piece : Piece = empty_piece (record { number = last + 1; start = size }) 0 script_end in
-    subst (Adds old newer) (sym s.split)
-    (adds_on old new newer s.pieces (piece ∷ []) s.adds
-    (adds_empty new newer (record { number = last + 1; start = size }) 0 script_end lexeme.End refl (λ after. refl)
-    (is ∙ ap (λ (l : LineStart). with_token new (token_at l 0 lexeme.End 0)) line_is)))

@@ -16,7 +16,7 @@ use Rattle.lf_lexer.specs.Refusals.{RestRefused}
 use Rattle.lf_lexer.specs.Refusals as r
 use Rattle.lf_lexer.specs.Lexing.{with_front, step_at, Adds, LexesPieces}
 use Rattle.lf_lexer.proofs.Fronts.{Taken, Stands, stands}
-use Rattle.lf_lexer.proofs.Adding.{adds_none, adds_on, adds_name, adds_number, adds_mark, adds_quoted}
+use Rattle.lf_lexer.proofs.Adding.{adds_on, adds_name, adds_number, adds_mark, adds_quoted}
 
 -- a step takes some bytes that are there
 pub record StepTakes (len : ℕ) (bytes : List ℕ) : Type 0 where
@@ -49,15 +49,6 @@ pub record PiecesSoFar (line : LineStart) (bytes : List ℕ) (old new : Lexed) (
   pub refused : (kind : RefusalKind) (place : ℕ) → RestRefused at rest kind place → RestRefused 0 bytes kind place
   pub adds : Adds old new pieces
   pub end_is : end ≡ end_of 0 pieces
-
-pub pieces_start : (line : LineStart) (bytes : List ℕ) (old : Lexed) → PiecesSoFar line bytes old old 0 bytes 0
-pieces_start line bytes old = record {
-  pieces = [];
-  on = λ others spells. spells;
-  refused = λ kind place is. is;
-  adds = adds_none old;
-  end_is = refl;
-}
 
 end_push : (end : ℕ) (pieces : List Piece) (piece : Piece) → end_of end (pieces ++ piece ∷ []) ≡ piece.at + length piece.bytes
 end_push end [] piece = refl

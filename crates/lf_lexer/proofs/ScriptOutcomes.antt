@@ -43,8 +43,6 @@ settles levels indent =
     else closes indent levels
 
 -- the function gives what the definitions say
-lt_not : (a b : ℕ) → a < b → (b == a) ≡ false
-lt_not a b lt = grind (arith, nat_tests)
 
 met_closes : (indent : ℕ) (levels : List ℕ) → innermost levels ≡ indent → closes indent levels ≡ settled levels []
 met_closes indent [] met = let e : (indent == 0) ≡ true = grind (arith, nat_tests) in ap (λ (b : Bool). if b then settled [] [] else missed BadIndent) e

@@ -1,10 +1,9 @@
 -- Lists that rise: their parts, two lists that one is put together from, and how often an item is there.
-use Rattle.std.proofs.Common.{◌≡◌, ℕ, ◌+◌, ◌≤◌, List, [], ◌∷◌, ◌++◌, Bool, true, false, cond, refl, sym, ap, ◌∙◌, subst, append-nil, arith, ◌⊎◌, inl, inr}
+use Rattle.std.proofs.Common.{◌≡◌, ℕ, ◌+◌, ◌≤◌, List, [], ◌∷◌, ◌++◌, Bool, true, false, cond, refl, ap, ◌∙◌, subst, append-nil, arith, inl, inr}
 use Rattle.std.proofs.lemmas.List.Sums.{sum_by-cons, sum_by-append}
 use Rattle.std.specs.List.{count_by, flat_map}
 use Rattle.lf_base.specs.Sets.{Member}
-use Rattle.lf_base.proofs.Dropped.{Sub, none, take, pass, sub_all, sub_within}
-use Rattle.lf_base.proofs.Sets.{Member_left, Member_right}
+use Rattle.lf_base.proofs.ListParts.{Sub, none, take, pass, sub_all, sub_within}
 use Rattle.lf_base.proofs.Sublists.{sub_append, sub_before}
 use Rattle.lf_parser.specs.Risings.{Rising}
 
@@ -74,17 +73,6 @@ module _ {X : Type 0} (before : X → X → Bool) where
     pub once_in : (xs : List X) → Rising before xs → count_by p xs ≤ 1
     once_in [] r = omega arith
     once_in (x ∷ xs) r = one_more x xs r.0 (p x) refl (once_in xs r.1)
-
-  -- two parts one behind the other
-  pub rising_parts : (xs ys : List X) → Rising before (xs ++ ys) → Rising before xs × Rising before ys × ((x y : X) → Member x xs → Member y ys → before x y ≡ true)
-  rising_parts [] ys r = (tt, r, (λ x y m n. absurd m))
-  rising_parts (z ∷ xs) ys r =
-      let rest = rising_parts xs ys r.1 in
-      ((λ y m. r.0 y (Member_left y xs ys m), rest.0), rest.1, (λ x y m n. by_place x y m n rest.2))
-    where
-      by_place : (x y : X) → (z ≡ x) ⊎ Member x xs → Member y ys → ((u v : X) → Member u xs → Member v ys → before u v ≡ true) → before x y ≡ true
-      by_place x y (inl e) n others = ap (λ u. before u y) (sym e) ∙ r.0 y (Member_right y xs ys n)
-      by_place x y (inr m) n others = others x y m n
 
 -- the items that one of the list's members brings
 pub brought_part : {X Y : Type 0} (f : X → List Y) (x : X) (xs : List X) → Member x xs → Sub (f x) (flat_map f xs)

@@ -9,7 +9,7 @@ use Rattle.lf_lexer.specs.declared.tokens.Mark.{Mark}
 use Rattle.lf_lexer.specs.declared.tokens.Mark.TheVariants as mark
 use Rattle.lf_parser.specs.Kinds.{mark_kind}
 use Rattle.lf_parser.specs.Words.{literal_of}
-use Rattle.lf_parser.specs.Forms.{Form, Gives, Takes, Only, ◌⨟◌, ◌∣◌, Many, done, Begins}
+use Rattle.lf_parser.specs.Forms.{Form, Gives, Takes, ◌⨟◌, ◌∣◌, Many, done, Begins}
 use Rattle.lf_parser.proofs.Good.{some_then, some_gives}
 use Rattle.lf_parser.specs.Grammar as form
 use Rattle.lf_parser.specs.Grammar.{Deeper, Sign, NewLine, Indent, Dedent, End, AName}
@@ -47,9 +47,6 @@ some_second h = (h.0, h.1, inr h.2)
 
 pub some_many : {S : Type 0} {Step : S → Form S} (s : S) → Begins (Many Step s) []
 some_many s = ([], s, done)
-
-pub some_only : {A : Type 0} {P : Form A} {G : Type 0} → G → Begins P [] → Begins (Only G P) []
-some_only k h = (h.0, h.1, (k, h.2))
 
 -- the forms of names and expressions
 pub some_close : {A : Type 0} (a : A) → Begins (Sign mark.CloseParen ⨟ (λ _. Gives a)) []

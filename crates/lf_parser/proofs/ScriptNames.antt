@@ -5,7 +5,7 @@ use Rattle.std.proofs.lemmas.Bool.Decides.{Decides-eqb}
 use Rattle.lf_base.specs.declared.refusals.Place.{Place}
 use Rattle.lf_base.specs.Sets.{Member}
 use Rattle.lf_base.specs.Texts.{Text}
-use Rattle.lf_base.proofs.Dropped.{and_parts}
+use Rattle.lf_base.proofs.Tests.{and_parts}
 use Rattle.lf_base.proofs.PairOrder.{is_pair_below, pair_below}
 use Rattle.lf_lexer.specs.declared.tokens.Lexeme.{Lexeme}
 use Rattle.lf_lexer.specs.declared.tokens.Lexeme.TheVariants as lexeme

@@ -112,9 +112,6 @@ module _ (g : Setting) (fits : (t : Token) → 1 ≤ kind (Some t) → g.fits t)
         (λ c x. some_open_of c x) (λ o h. tt))
         (λ c t. some_then AName _ some_name (λ x. some_open_of c x)) (λ o h. tt)
 
-    some_def : (c : Cause) → Begins (Def c) []
-    some_def c = some_then (Sign mark.Def) _ (some_sign mark.Def) (λ t. some_then AName _ some_name (λ x. some_open_of c x))
-
     abbrev StartsItem : Option Token → Type 0
     StartsItem o = 13 ≤ kind o
 
