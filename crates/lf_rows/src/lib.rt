@@ -8,6 +8,8 @@
 #[cfg(test)]
 mod check_rows;
 #[cfg(test)]
+mod deepest_script;
+#[cfg(test)]
 mod first_form_rows;
 #[cfg(test)]
 mod long_scripts;

@@ -1,4 +1,5 @@
 use crate::check_rows::check_rows;
+use crate::deepest_script::deepest_script;
 use crate::first_form_rows::first_form_rows;
 use crate::long_scripts::{LongScript, Repeated, long_scripts};
 use crate::not_built_rows::not_built_rows;
@@ -107,13 +108,19 @@ fn script_of(alloc: Global, parts: &[Repeated]) -> Result<String, OutOfMemory> {
     Ok(script)
 }
 
-fn check_long<R: Abort>(rt: &R, alloc: Global, long: &LongScript) -> Result<(), OutOfMemory> {
+// What `check` writes of a script.
+fn checked_text<R: Abort>(rt: &R, alloc: Global, script: &str) -> Result<MemSink, OutOfMemory> {
     let words = words_of(alloc, &["check"])?;
-    let script = script_of(alloc, long.parts)?;
     let mut source = MemSource::new(alloc, script.as_bytes(), 100_000, WHOLE.failing)?;
     let mut sink = MemSink::new(alloc, 100, 100, WHOLE.failing)?;
     let words = words.as_slice();
     tool::<R, MainStore, _, _, _>(rt, alloc, words, &mut source, &mut sink, &NoGate);
+    Ok(sink)
+}
+
+fn check_long<R: Abort>(rt: &R, alloc: Global, long: &LongScript) -> Result<(), OutOfMemory> {
+    let script = script_of(alloc, long.parts)?;
+    let sink = checked_text(rt, alloc, script.as_str())?;
     assert!(rt;
         sink.bytes() == long.text.as_bytes(),
         "{}: the text",
@@ -127,6 +134,14 @@ fn limits_are_kept(rt: HostRuntime) -> Result<(), Fail> {
     for long in long_scripts() {
         check_long(&rt, rt.alloc(), long)?;
     }
+    Ok(())
+}
+
+#[test]
+fn the_deepest_script_is_read(rt: HostRuntime) -> Result<(), Fail> {
+    let script = deepest_script(rt.alloc())?;
+    let sink = checked_text(&rt, rt.alloc(), script.as_str())?;
+    assert!(rt; sink.bytes() == "script ok\n".as_bytes());
     Ok(())
 }
 
