@@ -1,9 +1,11 @@
 pub mod Digits
 pub mod Prefixes
 pub mod TextEnds
-pub mod LineContents
+pub mod LineRests
+pub mod Spaces
 pub mod TextBytes
 pub mod Fronts
+pub mod LineFronts
 pub mod Adding
 pub mod PieceSteps
 pub mod LevelSteps

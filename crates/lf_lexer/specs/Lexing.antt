@@ -55,22 +55,22 @@ StepsWithin count step.Space = 1 ≤ count
 StepsWithin count (step.Piece len) = len ≤ count
 StepsWithin count (step.Refused kind offset) = offset ≤ count
 
--- the line's tokens, without the one at its end, came to what was lexed before
-pub record LexesPieces (line : LineStart) (bytes : List ℕ) (old new : Lexed) (end : ℕ) : Type 0 where
+-- the tokens of a line's rest, from a place on, came to what was lexed before
+pub record LexesPieces (line : LineStart) (at : ℕ) (bytes : List ℕ) (old new : Lexed) (end : ℕ) : Type 0 where
   pub pieces : List Piece
-  pub spells : RestSpells line 0 bytes pieces
+  pub spells : RestSpells line at bytes pieces
   pub adds : Adds old new pieces
   pub end_is : end ≡ end_of 0 pieces
 
-pub record RefusedPieces (line : LineStart) (bytes : List ℕ) (refusal : Refusal) : Type 0 where
+pub record RefusedPieces (line : LineStart) (at : ℕ) (bytes : List ℕ) (refusal : Refusal) : Type 0 where
   pub kind : RefusalKind
   pub place : ℕ
-  pub refused : RestRefused 0 bytes kind place
+  pub refused : RestRefused at bytes kind place
   pub is : refusal ≡ refusal_at line kind place
 
-abbrev pub RefusesPieces : LineStart → List ℕ → ReadFail → Type 0
-RefusesPieces line bytes (fails.Refused refusal) = RefusedPieces line bytes refusal
-RefusesPieces line bytes fails.OutOfMemory = Unit {0}
+abbrev pub RefusesPieces : LineStart → ℕ → List ℕ → ReadFail → Type 0
+RefusesPieces line at bytes (fails.Refused refusal) = RefusedPieces line at bytes refusal
+RefusesPieces line at bytes fails.OutOfMemory = Unit {0}
 
 -- each level is further in than those round it
 abbrev pub Descend : List ℕ → Type 0

@@ -11,6 +11,7 @@ pub mod Layout
 pub mod Order
 pub mod LineOrder
 pub mod NamedTexts
+pub mod LineRest
 pub mod Front
 pub mod FrontWithin
 pub mod Meaning

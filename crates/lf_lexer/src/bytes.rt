@@ -5,7 +5,8 @@ ghost use Rattle.std.specs.List.{prefix_len};
 ghost use Rattle.std.specs.Str.Parse.{digits_value};
 ghost use Rattle.lf_lexer.specs.Bytes as spec;
 ghost use Rattle.lf_lexer.specs.Bytes.{Passes};
-ghost use Rattle.lf_lexer.specs.SourceLines.{content, full_line_len, indentation, is_blank};
+ghost use Rattle.lf_lexer.specs.LineRest as spec_rest;
+ghost use Rattle.lf_lexer.specs.SourceLines.{full_line_len, indentation};
 
 pub fn is_digit(byte: u8) -> bool
     ensures { result ≡ spec.is_digit byte }
@@ -84,19 +85,22 @@ pub fn spaces_len(bytes: &[u8]) -> usize
     bytes.len()
 }
 
-/// Whether a line has nothing but spaces and at most a comment.
-pub fn is_blank(bytes: &[u8]) -> bool
-    ensures { result ≡ is_blank bytes.now }
+/// Whether the line ends before these bytes, which are left of the script: by a line
+/// feed, by a carriage return directly before one, or with the script.
+pub fn ends_line(rest: &[u8]) -> bool
+    ensures { result ≡ spec_rest.ends_line rest.now }
 {
-    for byte in bytes {
-        if *byte != b' ' {
-            return *byte == b'#';
-        }
-    }
-    true
+    matches!(rest, [] | [b'\n', ..] | [b'\r', b'\n', ..])
 }
 
-/// The number of bytes of the first line, with its end.
+/// Whether nothing but a comment is left of the line.
+pub fn ends_tokens(rest: &[u8]) -> bool
+    ensures { result ≡ spec_rest.ends_tokens rest.now }
+{
+    ends_line(rest) || matches!(rest, [b'#', ..])
+}
+
+/// The number of bytes of the line at the front, with its end.
 pub fn full_line_len(bytes: &[u8]) -> usize
     ensures len { result ≡ full_line_len bytes.now }
     ensures within { result ≤ length bytes.now }
@@ -107,26 +111,4 @@ pub fn full_line_len(bytes: &[u8]) -> usize
         }
     }
     bytes.len()
-}
-
-/// The number of bytes of a line before its end, which is a line feed and a carriage
-/// return directly before it.
-pub fn content_len(line: &[u8]) -> usize
-    ensures len { content line.now ≡ take result line.now }
-    ensures within { result ≤ length line.now }
-{
-    let len = line.len();
-    if len == 0 {
-        return 0;
-    }
-    if line[len - 1] != b'\n' {
-        return len;
-    }
-    if len == 1 {
-        return 0;
-    }
-    if line[len - 2] != b'\r' {
-        return len - 1;
-    }
-    len - 2
 }

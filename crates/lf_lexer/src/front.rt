@@ -1,8 +1,9 @@
 ghost use Rattle.std.specs.Prelude.{◌≡◌, ◌+◌, length};
 ghost use Rattle.lf_lexer.specs.Front as spec;
 ghost use Rattle.lf_lexer.specs.FrontWithin.{TakesWithin};
+ghost use Rattle.lf_lexer.specs.LineRest.{line_rest};
 
-use crate::bytes::{digits_len, is_digit, is_letter, name_len, value};
+use crate::bytes::{digits_len, ends_line, is_digit, is_letter, name_len, value};
 use crate::marks::{long_sign, short_sign, word_of};
 use crate::texts::{TextEnd, text_end};
 use crate::tokens::Mark;
@@ -26,12 +27,15 @@ pub enum Front {
     Refused(RefusalKind, usize),
 }
 
-/// What stands at the front of these bytes, which are the rest of a line.
+/// What stands at the front of these bytes, which are left of the script, on their line.
 #[tactic(auto, unfolding(crate::specs::Front::front))]
 pub fn front_of(bytes: &[u8]) -> Front
-    ensures front { result ≡ spec.front bytes.now }
+    ensures front { result ≡ spec.front (line_rest bytes.now) }
     ensures within { TakesWithin (length bytes.now) result }
 {
+    if ends_line(bytes) {
+        return Front::End;
+    }
     let [byte, rest @ ..] = bytes else {
         return Front::End;
     };
@@ -70,7 +74,7 @@ fn number_front(bytes: &[u8]) -> Front
 }
 
 fn text_front(rest: &[u8]) -> Front
-    ensures front { result ≡ spec.text_front rest.now }
+    ensures front { result ≡ spec.text_front (line_rest rest.now) }
     ensures within { TakesWithin (length rest.now + 1) result }
 {
     match text_end(rest) {

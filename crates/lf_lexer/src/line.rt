@@ -1,8 +1,10 @@
 ghost use Rattle.std.specs.Prelude.{◌≡◌, ◌<◌, ◌≤◌, ◌+◌, ◌^◌, length, IfOk, IfErr, OnOk};
 ghost use Rattle.lf_lexer.specs.Front as spec;
+ghost use Rattle.lf_lexer.specs.LineRest.{line_rest};
+ghost use Rattle.lf_lexer.specs.SourceLines.{full_line_len};
 ghost use Rattle.lf_lexer.specs.Lexing.{with_front, step_at, StepsWithin, Descend, LexesPieces, RefusesPieces, LexesLine, RefusesLine};
 
-use crate::bytes::{is_blank, spaces_len};
+use crate::bytes::{ends_tokens, full_line_len, spaces_len};
 use crate::front::{Front, front_of};
 use crate::indent::lex_indent;
 use crate::levels::Levels;
@@ -24,7 +26,26 @@ pub enum Step {
     Refused(RefusalKind, usize),
 }
 
+/// Where the tokens of a line end: places in it.
+#[derive(Clone, Copy, Debug, PartialEq, Eq)]
+struct TokensEnd {
+    /// Behind the last one; 0 where there is none.
+    end: u32,
+    /// Where a comment or the line's end begins.
+    stop: u32,
+}
+
+/// What is known of a line once it has been read.
+#[derive(Clone, Copy, Debug, PartialEq, Eq)]
+pub struct LineRead {
+    /// Whether it has a token.
+    pub filled: bool,
+    /// The number of its bytes, with its end.
+    pub len: usize,
+}
+
 /// Adds the token at the front of the rest of a line, which begins at `at` in it.
+/// `rest` is all that is left of the script.
 #[tactic(auto, unfolding(crate::specs::Lexing::with_front, crate::specs::Lexing::step_at))]
 fn lex_step(
     alloc: Global,
@@ -34,8 +55,8 @@ fn lex_step(
     rest: &[u8],
 ) -> Result<Step, OutOfMemory>
     requires { line.start + at + length rest.now + 1 < 2 ^ 32 }
-    ensures lexed { OnOk result (lexed.new ≡ with_front line lexed.old at rest.now (spec.front rest.now)) }
-    ensures step { IfOk result (λ step. step ≡ step_at (spec.front rest.now)) }
+    ensures lexed { OnOk result (lexed.new ≡ with_front line lexed.old at (line_rest rest.now) (spec.front (line_rest rest.now))) }
+    ensures step { IfOk result (λ step. step ≡ step_at (spec.front (line_rest rest.now))) }
     ensures within { IfOk result (λ step. StepsWithin (length rest.now) step) }
 {
     match front_of(rest) {
@@ -62,26 +83,28 @@ fn lex_step(
     }
 }
 
-/// Adds the tokens of a line, and answers where the last one ends, or 0 where it
-/// has none. Refused exactly where no tokens spell the line, at the first byte that
-/// is to blame.
+/// Adds the tokens of a line from its place `indent` on; `bytes` is all that is left
+/// of the script there. Refused exactly where no tokens spell the line's rest, at the
+/// first byte that is to blame.
 fn lex_pieces(
     alloc: Global,
     lexed: &mut Lexed,
     line: LineStart,
+    indent: u32,
     bytes: &[u8],
-) -> Result<u32, ReadFail>
-    requires { line.start + length bytes.now + 1 < 2 ^ 32 }
-    ensures lexed { IfOk result (λ end. LexesPieces line bytes.now lexed.old lexed.new end) }
-    ensures within { IfOk result (λ end. end ≤ length bytes.now) }
-    ensures refused { IfErr result (RefusesPieces line bytes.now) }
+) -> Result<TokensEnd, ReadFail>
+    requires { line.start + indent + length bytes.now + 1 < 2 ^ 32 }
+    ensures lexed { IfOk result (λ tokens. LexesPieces line indent (line_rest bytes.now) lexed.old lexed.new tokens.end) }
+    ensures end { IfOk result (λ tokens. tokens.end ≤ tokens.stop) }
+    ensures stop { IfOk result (λ tokens. tokens.stop ≤ indent + length (line_rest bytes.now)) }
+    ensures refused { IfErr result (RefusesPieces line indent (line_rest bytes.now)) }
 {
     let mut rest = bytes;
-    let mut at: u32 = 0;
+    let mut at: u32 = indent;
     let mut end: u32 = 0;
     loop {
         match lex_step(alloc, lexed, line, at, rest)? {
-            Step::End => return Ok(end),
+            Step::End => return Ok(TokensEnd { end, stop: at }),
             Step::Space => {
                 let (_, after) = rest.split_at(1);
                 rest = after;
@@ -100,27 +123,37 @@ fn lex_pieces(
     }
 }
 
-/// Adds the levels, the tokens and the end of a line, and answers whether it has
-/// any: a blank line has none. Refused exactly where the line is not spelled, first
-/// for its indentation and then for its first byte that is to blame.
+/// Adds the levels, the tokens and the end of a line, if it has any: a blank line has
+/// none. `bytes` is all that is left of the script. Refused exactly where the line is
+/// not spelled, first for its indentation and then for its first byte that is to blame.
 pub fn lex_line(
     alloc: Global,
     lexed: &mut Lexed,
     levels: &mut Levels,
     line: LineStart,
     bytes: &[u8],
-) -> Result<bool, ReadFail>
+) -> Result<LineRead, ReadFail>
     requires short { line.start + length bytes.now + 1 < 2 ^ 32 }
     requires descend { Descend levels.old }
-    ensures lexed { IfOk result (λ filled. LexesLine line bytes.now levels.old levels.new lexed.old lexed.new filled) }
-    ensures refused { IfErr result (RefusesLine line levels.old bytes.now) }
+    ensures lexed { IfOk result (λ read. LexesLine line (line_rest bytes.now) levels.old levels.new lexed.old lexed.new read.filled) }
+    ensures len { IfOk result (λ read. read.len ≡ full_line_len bytes.now) }
+    ensures refused { IfErr result (RefusesLine line levels.old (line_rest bytes.now)) }
 {
-    if is_blank(bytes) {
-        return Ok(false);
+    let indent = spaces_len(bytes);
+    let (_, behind) = bytes.split_at(indent);
+    if ends_tokens(behind) {
+        return Ok(LineRead {
+            filled: false,
+            len: indent + full_line_len(behind),
+        });
     }
-    let indent = spaces_len(bytes) as u32;
-    lex_indent(lexed, levels, line, indent)?;
-    let end = lex_pieces(alloc, lexed, line, bytes)?;
-    lexed.push(line.token(end, Lexeme::NewLine, 0))?;
-    Ok(true)
+    lex_indent(lexed, levels, line, indent as u32)?;
+    let tokens = lex_pieces(alloc, lexed, line, indent as u32, behind)?;
+    lexed.push(line.token(tokens.end, Lexeme::NewLine, 0))?;
+    let stop = tokens.stop as usize;
+    let (_, left) = bytes.split_at(stop);
+    Ok(LineRead {
+        filled: true,
+        len: stop + full_line_len(left),
+    })
 }

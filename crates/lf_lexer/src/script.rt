@@ -3,7 +3,6 @@ ghost use Rattle.lf_lexer.specs.Lexing.{LexesLines};
 ghost use Rattle.lf_lexer.specs.Reading.{Spells};
 ghost use Rattle.lf_lexer.specs.Refusals.{FailsAs};
 
-use crate::bytes::{content_len, full_line_len};
 use crate::indent::close_script;
 use crate::levels::Levels;
 use crate::lexed::Lexed;
@@ -54,14 +53,15 @@ fn lex_lines(
     };
     let mut last = 0;
     while !rest.is_empty() {
-        let (here, behind) = rest.split_at(full_line_len(rest));
-        if lex_line(alloc, lexed, levels, line, &here[..content_len(here)])? {
+        let read = lex_line(alloc, lexed, levels, line, rest)?;
+        if read.filled {
             last = line.number;
         }
+        let (_, behind) = rest.split_at(read.len);
         rest = behind;
         line = LineStart {
             number: line.number + 1,
-            start: line.start + here.len() as u32,
+            start: line.start + read.len as u32,
         };
     }
     Ok(last)

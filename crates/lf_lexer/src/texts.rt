@@ -1,11 +1,12 @@
 //! Texts in quotes.
 
-ghost use Rattle.std.specs.Prelude.{◌≡◌, length, IfOk};
+ghost use Rattle.std.specs.Prelude.{◌≡◌, ◌+◌, length, IfOk};
 ghost use Rattle.lf_lexer.specs.Front as spec;
 ghost use Rattle.lf_lexer.specs.FrontWithin.{EndsWithin, StepsWithin};
+ghost use Rattle.lf_lexer.specs.LineRest.{line_rest};
 ghost use Rattle.lf_lexer.specs.Meaning.{meaning};
 
-use crate::bytes::is_text_byte;
+use crate::bytes::{ends_line, is_text_byte};
 use lf_base::OutOfMemory;
 use std::alloc::Global;
 
@@ -33,10 +34,9 @@ enum TextStep {
     Goes(usize),
 }
 
-/// How the text ends, of which these bytes and what follows stand behind the
-/// opening quote.
+/// How the text ends behind whose opening quote these bytes are left of the script.
 pub fn text_end(bytes: &[u8]) -> TextEnd
-    ensures end { result ≡ spec.text_end 0 bytes.now }
+    ensures end { result ≡ spec.text_end 0 (line_rest bytes.now) }
     ensures within { EndsWithin (length bytes.now) result }
 {
     let mut rest = bytes;
@@ -57,16 +57,31 @@ pub fn text_end(bytes: &[u8]) -> TextEnd
 
 #[tactic(auto, unfolding(crate::specs::Front::text_step))]
 fn text_step(rest: &[u8]) -> TextStep
-    ensures step { result ≡ spec.text_step rest.now }
+    ensures step { result ≡ spec.text_step (line_rest rest.now) }
     ensures within { StepsWithin (length rest.now) result }
 {
+    if ends_line(rest) {
+        return TextStep::Open;
+    }
     match rest {
         [b'"', ..] => TextStep::Closes,
-        [] | [b'\\'] => TextStep::Open,
-        [b'\\', b'"' | b'\\', ..] => TextStep::Goes(2),
-        [b'\\', ..] => TextStep::Bad(1),
+        [b'\\', behind @ ..] => pair_step(behind),
         [byte, ..] if is_text_byte(*byte) => TextStep::Goes(1),
         _ => TextStep::Bad(0),
+    }
+}
+
+// What stands at the front of the rest of a text that has a backslash before these bytes.
+fn pair_step(behind: &[u8]) -> TextStep
+    ensures step { result ≡ spec.pair_step (line_rest behind.now) }
+    ensures within { StepsWithin (length behind.now + 1) result }
+{
+    if ends_line(behind) {
+        return TextStep::Open;
+    }
+    match behind {
+        [b'"' | b'\\', ..] => TextStep::Goes(2),
+        _ => TextStep::Bad(1),
     }
 }
 

@@ -1,22 +1,25 @@
-use Rattle.std.proofs.Common.{◌∙◌, ◌+◌, ap, arith, length-drop}
+use Rattle.std.proofs.Common.{◌∙◌, ◌+◌, ℕ, List, ap, arith, length-drop}
 use Rattle.std.proofs.lemmas.Grind.{common_steps}
 use Rattle.lf_lexer.specs.Front.{text_end}
-use Rattle.lf_lexer.proofs.TextEnds.{step_ends}
+use Rattle.lf_lexer.specs.LineRest.{line_rest}
+use Rattle.lf_lexer.proofs.LineRests.{rest_drop}
+use Rattle.lf_lexer.proofs.TextEnds.{step_ends, step_within}
 use Rattle.lf_lexer.proofs.texts.text_end.Goals as goal
 
 pub returns-in-Closes-clause-end : goal.returns-in-Closes-clause-end
-returns-in-Closes-clause-end c = step_ends c.loop-offset.at c.loop-offset.rest.now _ _ c.in-Closes.ensures.step c.loop-offset.invariant.same
+returns-in-Closes-clause-end c = step_ends c.loop-offset.at (line_rest c.loop-offset.rest.now) _ _ c.in-Closes.ensures.step c.loop-offset.invariant.same
 
 pub returns-in-Open-clause-end : goal.returns-in-Open-clause-end
-returns-in-Open-clause-end c = step_ends c.loop-offset.at c.loop-offset.rest.now _ _ c.in-Open.ensures.step c.loop-offset.invariant.same
+returns-in-Open-clause-end c = step_ends c.loop-offset.at (line_rest c.loop-offset.rest.now) _ _ c.in-Open.ensures.step c.loop-offset.invariant.same
 
 pub returns-in-Bad-clause-end : goal.returns-in-Bad-clause-end
-returns-in-Bad-clause-end c = step_ends c.loop-offset.at c.loop-offset.rest.now _ _ c.in-Bad.ensures.step c.loop-offset.invariant.same
+returns-in-Bad-clause-end c = step_ends c.loop-offset.at (line_rest c.loop-offset.rest.now) _ _ c.in-Bad.ensures.step c.loop-offset.invariant.same
 
 pub loop-offset-preserved : goal.loop-offset-preserved
 loop-offset-preserved c = record {
   long = let w = c.in-Goes.ensures.within in grind (arith, common_steps, length-drop);
   same =
-      ap (text_end (c.loop-offset.at + c.in-Goes.len)) c.split_at.ensures.back
-      ∙ step_ends c.loop-offset.at c.loop-offset.rest.now _ _ c.in-Goes.ensures.step c.loop-offset.invariant.same;
+      ap (λ (left : List ℕ). text_end (c.loop-offset.at + c.in-Goes.len) (line_rest left)) c.split_at.ensures.back
+      ∙ ap (text_end (c.loop-offset.at + c.in-Goes.len)) (rest_drop c.in-Goes.len c.loop-offset.rest.now (step_within (line_rest c.loop-offset.rest.now) c.in-Goes.len c.in-Goes.ensures.step))
+      ∙ step_ends c.loop-offset.at (line_rest c.loop-offset.rest.now) _ _ c.in-Goes.ensures.step c.loop-offset.invariant.same;
 }
