@@ -1,5 +1,5 @@
 -- Pieces that come to what was lexed before, one after another.
-use Rattle.std.proofs.Common.{◌≡◌, ◌∙◌, ℕ, ◌+◌, ◌≤◌, List, [], ◌∷◌, ◌++◌, length, map, take, drop, pos, refl, sym, ap, subst, append-nil, append_assoc, arith, length-drop, ℤ}
+use Rattle.std.proofs.Common.{◌≡◌, ◌∙◌, ℕ, ◌+◌, ◌≤◌, List, [], ◌∷◌, ◌++◌, length, map, take, pos, refl, sym, ap, subst, append-nil, append_assoc, ℤ}
 use Rattle.std.specs.Str.Parse.{digits_value}
 use Rattle.std.proofs.lemmas.List.{length-take-le, map-append}
 use Rattle.std.proofs.lemmas.Grind.{flat_map-append, fold-append}
@@ -11,7 +11,6 @@ use Rattle.lf_lexer.specs.declared.tokens.Lexeme.TheVariants as lexeme
 use Rattle.lf_lexer.specs.declared.tokens.Token.{Token}
 use Rattle.lf_lexer.specs.declared.lexed.Lexed.{Lexed}
 use Rattle.lf_lexer.specs.declared.line_start.LineStart.{LineStart}
-use Rattle.lf_lexer.specs.Meaning.{meaning}
 use Rattle.lf_lexer.specs.Places.{token_at}
 use Rattle.lf_lexer.specs.Lexed.{with_token, with_name, with_quoted}
 use Rattle.lf_lexer.specs.Pieces.{Form, name, number, text_of, mark_of, Piece}
@@ -74,18 +73,15 @@ module _ (line : LineStart) (at len : ℕ) (rest : List ℕ) (old new : Lexed) (
         ∙ ap (λ (n : ℕ). old.tokens ++ token_at line at (lexeme.Name (record { index = n })) (length word) ∷ []) (sym place);
   }
 
-pub adds_quoted : (line : LineStart) (at len : ℕ) (rest : List ℕ) (old new : Lexed) → len + 2 ≤ length rest → new ≡ with_quoted line old at (take len (drop 1 rest))
-    → Adds old new ((record { form = text_of (meaning (take len (drop 1 rest))); line = line; at = at; bytes = take (len + 2) rest }) ∷ [])
-adds_quoted line at len rest old new within is = record {
+pub adds_quoted : (line : LineStart) (at len : ℕ) (rest : List ℕ) (old new : Lexed) (text : Text) → len + 2 ≤ length rest → new ≡ with_quoted line old at text len
+    → Adds old new ((record { form = text_of text; line = line; at = at; bytes = take (len + 2) rest }) ∷ [])
+adds_quoted line at len rest old new text within is = record {
   texts = ap (λ (l : Lexed). l.texts) is;
   tokens = λ after grows.
-      let text = meaning (take len (drop 1 rest)) in
       let grown = subst (λ (ts : List Text). Grows ts after) (ap (λ (l : Lexed). l.texts) is) grows in
       let place : place_of after text ≡ place_of old.texts text = place_of-with_text old.texts after text grown in
-      let inner : length (take len (drop 1 rest)) ≡ len = length-take-le len (drop 1 rest) (let d = length-drop 1 rest in omega arith) in
-      let outer : length (take (len + 2) rest) ≡ len + 2 = length-take-le (len + 2) rest within in
-      let long : length (take len (drop 1 rest)) + 2 ≡ length (take (len + 2) rest) = omega arith in
+      let long : length (take (len + 2) rest) ≡ len + 2 = length-take-le (len + 2) rest within in
       ap (λ (l : Lexed). l.tokens) is
-      ∙ ap (λ (n : ℕ). old.tokens ++ token_at line at (lexeme.Text (record { index = n })) (length (take len (drop 1 rest)) + 2) ∷ []) (sym place)
-      ∙ ap (λ (n : ℕ). old.tokens ++ token_at line at (lexeme.Text (record { index = place_of after text })) n ∷ []) long;
+      ∙ ap (λ (n : ℕ). old.tokens ++ token_at line at (lexeme.Text (record { index = n })) (len + 2) ∷ []) (sym place)
+      ∙ ap (λ (n : ℕ). old.tokens ++ token_at line at (lexeme.Text (record { index = place_of after text })) n ∷ []) (sym long);
 }

@@ -1,9 +1,9 @@
 pub mod Digits
 pub mod Prefixes
-pub mod TextEnds
 pub mod LineRests
 pub mod Spaces
 pub mod TextBytes
+pub mod TextEnds
 pub mod Fronts
 pub mod LineFronts
 pub mod Adding

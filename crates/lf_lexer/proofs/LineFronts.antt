@@ -1,15 +1,19 @@
 -- What stands at the front of a line's rest stands at the front of all that is left of the script, but for a text.
-use Rattle.std.proofs.Common.{◌≡◌, ◌∙◌, ℕ, ◌+◌, ◌-◌, Bool, true, false, List, [], ◌∷◌, length, length-drop, take, drop, refl, sym, ap, subst, arith, slice_index_or, None}
-use Rattle.std.specs.Prelude.{◌==◌, if◌then◌else◌}
+use Rattle.std.proofs.Common.{◌≡◌, ◌∙◌, ℕ, ◌+◌, ◌-◌, Bool, true, false, List, [], ◌∷◌, length, length-drop, take, drop, refl, sym, ap, subst, arith, slice_index_or, Option, Some, None, pos, ◌^◌}
+use Rattle.std.specs.Prelude.{◌==◌, nat_lt, if◌then◌else◌}
+use Rattle.std.specs.Str.Parse.{digits_value}
 use Rattle.std.specs.List.{prefix_len}
 use Rattle.std.proofs.lemmas.Bool.Decides.{nat_tests}
 use Rattle.std.proofs.lemmas.List.Sums.{prefix_len-le-length}
+use Rattle.lf_lexer.specs.declared.front.Front.{Front}
 use Rattle.lf_lexer.specs.declared.front.Front.TheVariants as f
 use Rattle.lf_lexer.specs.Bytes.{is_digit, is_letter, is_name_byte}
-use Rattle.lf_lexer.specs.Marks.{long_sign}
-use Rattle.lf_lexer.specs.Meaning.{meaning}
+use Rattle.lf_base.specs.declared.refusals.RefusalKind.TheVariants.{WideNumber}
+use Rattle.lf_lexer.specs.declared.tokens.Mark.{Mark}
+use Rattle.lf_lexer.specs.Marks.{word_of, long_sign}
+use Rattle.lf_lexer.specs.Meaning.{meaning, FrontMeans}
 use Rattle.lf_lexer.specs.Pieces.{name, text_of}
-use Rattle.lf_lexer.specs.Front.{front, name_front, name_front_at, number_front, number_front_at, text_front, sign_front}
+use Rattle.lf_lexer.specs.Front.{front, word_front, name_front, name_front_at, number_front, number_front_at, text_front, sign_front}
 use Rattle.lf_lexer.specs.LineRest.{ends_line, line_rest}
 use Rattle.lf_lexer.proofs.LineRests.{stops_there, rest_prefix, rest_take, rest_drop}
 use Rattle.lf_lexer.proofs.Fronts.{Taken, Stands, stands}
@@ -79,3 +83,23 @@ text_taken bytes len is =
     let same : line_rest (drop 1 bytes) ≡ drop 1 (line_rest bytes) = rest_drop 1 bytes (omega arith) in
     sym (ap (take len) (sym same) ∙ rest_take len (drop 1 bytes)
     (let long : length (line_rest (drop 1 bytes)) ≡ length (line_rest bytes) - 1 = ap length same ∙ length-drop 1 (line_rest bytes) in omega arith))
+
+-- a name, a word or a number is no text
+pub name_no_text : (text all bytes : List ℕ) (x : Front) → x ≡ name_front bytes → FrontMeans text all x
+unfolding name_front_at
+name_no_text text all bytes x is = subst (FrontMeans text all) (sym is) (by_word (word_of (take (prefix_len is_name_byte bytes) bytes)))
+  where
+    by_word : (w : Option Mark) → FrontMeans text all (word_front (prefix_len is_name_byte bytes) w)
+    by_word (Some mark) = tt
+    by_word None = tt
+
+pub number_no_text : (text all bytes : List ℕ) (x : Front) → x ≡ number_front bytes → FrontMeans text all x
+unfolding number_front_at
+number_no_text text all bytes x is = subst (FrontMeans text all) (sym is) (by_size (nat_lt (digits_value 10 digits) (2 ^ 63)))
+  where
+    digits : List ℕ
+    digits = take (prefix_len is_digit bytes) bytes
+
+    by_size : (b : Bool) → FrontMeans text all (if b then f.Number (pos (digits_value 10 digits)) (prefix_len is_digit bytes) else f.Refused WideNumber 0)
+    by_size true = tt
+    by_size false = tt

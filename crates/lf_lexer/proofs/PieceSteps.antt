@@ -106,7 +106,7 @@ step_piece line start bytes old new newer at rest end len = by_front (front rest
     by_front (f.Number value n) taken e g s =
         moved n e (with_piece line start bytes old new newer at rest end n number taken.0 (adds_number line at n rest new newer taken.0.within value taken.1 g) s)
     by_front (f.Text n) taken e g s =
-        moved (n + 2) e (with_piece line start bytes old new newer at rest end (n + 2) (text_of (meaning (take n (drop 1 rest)))) taken (adds_quoted line at n rest new newer taken.within g) s)
+        moved (n + 2) e (with_piece line start bytes old new newer at rest end (n + 2) (text_of (meaning (take n (drop 1 rest)))) taken (adds_quoted line at n rest new newer (meaning (take n (drop 1 rest))) taken.within g) s)
     by_front (f.Sign mark n) taken e g s =
         moved n e (with_piece line start bytes old new newer at rest end n (mark_of mark) taken (adds_mark line at n rest new newer taken.within mark g) s)
     by_front (f.Refused kind offset) is e g s = cc

@@ -59,7 +59,7 @@ meaning_is _ _ (p.quote_pair {bytes = bytes} {text = text} rest) = ap (λ (t : T
 meaning_is _ _ (p.slash_pair {bytes = bytes} {text = text} rest) = ap (λ (t : Text). 92 ∷ t) (meaning_is bytes text rest)
 
 -- good bytes behind good bytes
-text_bytes_on : (bytes : List ℕ) (text : Text) (more : List ℕ) (others : Text) → TextBytes bytes text → TextBytes more others → TextBytes (bytes ++ more) (text ++ others)
+pub text_bytes_on : (bytes : List ℕ) (text : Text) (more : List ℕ) (others : Text) → TextBytes bytes text → TextBytes more others → TextBytes (bytes ++ more) (text ++ others)
 text_bytes_on _ _ more others p.no_byte rest = rest
 text_bytes_on _ _ more others (p.byte_itself {bytes = bytes} {text = text} h good) rest = p.byte_itself h (text_bytes_on bytes text more others good rest)
 text_bytes_on _ _ more others (p.quote_pair {bytes = bytes} {text = text} good) rest = p.quote_pair (text_bytes_on bytes text more others good rest)

@@ -1,12 +1,21 @@
 -- The end of a text, one step after another.
-use Rattle.std.proofs.Common.{◌≡◌, ◌∙◌, ◌≤◌, ℕ, ◌+◌, ◌||◌, Bool, true, false, List, [], ◌∷◌, length, drop, refl, sym, ap, arith}
+use Rattle.std.proofs.Common.{◌≡◌, ◌∙◌, ◌≤◌, ℕ, ◌+◌, ◌-◌, ◌||◌, Bool, true, false, List, [], ◌∷◌, ◌++◌, length, take, drop, get_or, refl, sym, ap, subst, arith}
 use Rattle.std.specs.Prelude.{◌==◌, if◌then◌else◌}
+use Rattle.std.proofs.Math.Seq.{take-add}
+use Rattle.std.proofs.lemmas.Bool.Decides.{Decides-eqb}
+use Rattle.std.proofs.lemmas.List.{drop-drop, get_or-take}
 use Rattle.lf_lexer.specs.declared.texts.TextEnd.{TextEnd}
 use Rattle.lf_lexer.specs.declared.texts.TextEnd.TheVariants.{Closed, Open, Bad}
 use Rattle.lf_lexer.specs.declared.texts.TextStep.{TextStep}
 use Rattle.lf_lexer.specs.declared.texts.TextStep.TheVariants as step
 use Rattle.lf_lexer.specs.Bytes.{is_text_byte}
-use Rattle.lf_lexer.specs.Front.{text_step, text_end}
+use Rattle.lf_lexer.specs.Front.{pair_step, text_step, text_end}
+use Rattle.lf_lexer.specs.LineRest.{line_rest}
+use Rattle.lf_lexer.specs.Meaning.{meaning}
+use Rattle.lf_lexer.specs.Pieces.{TextBytes}
+use Rattle.lf_lexer.specs.Pieces as p
+use Rattle.lf_lexer.proofs.LineRests.{rest_take}
+use Rattle.lf_lexer.proofs.TextBytes.{text_bytes_on, meaning_is}
 
 abbrev pub behind_step : ℕ → List ℕ → TextStep → TextEnd
 behind_step at bytes step.Closes = Closed at
@@ -60,3 +69,66 @@ step_within (byte ∷ next ∷ rest) len e = by_byte (byte == 34) (byte == 92) (
     by_byte false true false t e = cc
     by_byte false false p true e = let one : len ≡ 1 = cc in omega arith
     by_byte false false p false e = cc
+
+-- a part of a text stands for its last byte
+pub step_means : (bytes : List ℕ) (len : ℕ) → step.Goes len ≡ text_step bytes → TextBytes (take len bytes) (get_or bytes (len - 1) 0 ∷ [])
+unfolding text_step
+step_means [] len e = cc
+step_means (byte ∷ rest) len e = by_quote (byte == 34) (byte == 92) (is_text_byte byte) refl refl e
+  where
+    Means : ℕ → Type 0
+    Means len = TextBytes (take len (byte ∷ rest)) (get_or (byte ∷ rest) (len - 1) 0 ∷ [])
+
+    itself : is_text_byte byte ≡ true → step.Goes len ≡ step.Goes 1 → Means len
+    itself t e = subst Means (let one : 1 ≡ len = cc in one) (p.byte_itself t p.no_byte)
+
+    pair : (rest : List ℕ) → (byte == 92) ≡ true → step.Goes len ≡ pair_step rest → TextBytes (take len (byte ∷ rest)) (get_or (byte ∷ rest) (len - 1) 0 ∷ [])
+    pair [] s e = cc
+    pair (next ∷ rest) s e = by_next (next == 34) (next == 92) refl refl e
+      where
+        two : TextBytes (byte ∷ next ∷ []) (next ∷ []) → step.Goes len ≡ step.Goes 2 → TextBytes (take len (byte ∷ next ∷ rest)) (get_or (byte ∷ next ∷ rest) (len - 1) 0 ∷ [])
+        two good e = subst (λ (n : ℕ). TextBytes (take n (byte ∷ next ∷ rest)) (get_or (byte ∷ next ∷ rest) (n - 1) 0 ∷ [])) (let two : 2 ≡ len = cc in two) good
+
+        by_next : (q s' : Bool) → (next == 34) ≡ q → (next == 92) ≡ s' → step.Goes len ≡ (if q || s' then step.Goes 2 else step.Bad 1)
+            → TextBytes (take len (byte ∷ next ∷ rest)) (get_or (byte ∷ next ∷ rest) (len - 1) 0 ∷ [])
+        by_next true s' q_is s_is e = two (rw ((Decides-eqb byte 92).0 s, (Decides-eqb next 34).0 q_is) (p.quote_pair p.no_byte)) e
+        by_next false true q_is s_is e = two (rw ((Decides-eqb byte 92).0 s, (Decides-eqb next 92).0 s_is) (p.slash_pair p.no_byte)) e
+        by_next false false q_is s_is e = cc
+
+    by_quote : (q s t : Bool) → (byte == 92) ≡ s → is_text_byte byte ≡ t
+        → step.Goes len ≡ (if q then step.Closes else if s then pair_step rest else if t then step.Goes 1 else step.Bad 0) → Means len
+    by_quote true s t s_is t_is e = cc
+    by_quote false true t s_is t_is e = pair rest s_is e
+    by_quote false false true s_is t_is e = itself t_is e
+    by_quote false false false s_is t_is e = cc
+
+-- the part of a text that stands on its line, in all that is left of the script
+means_here : (rest : List ℕ) (len : ℕ) → step.Goes len ≡ text_step (line_rest rest) → 1 ≤ len → TextBytes (take len rest) (get_or rest (len - 1) 0 ∷ [])
+means_here rest len e some =
+    let within = step_within (line_rest rest) len e in
+    let front = rest_take len rest within in
+    let last : get_or (line_rest rest) (len - 1) 0 ≡ get_or rest (len - 1) 0 =
+    sym (get_or-take len (line_rest rest) (len - 1) 0 (omega arith)) ∙ ap (λ (bytes : List ℕ). get_or bytes (len - 1) 0) front ∙ get_or-take len rest (len - 1) 0 (omega arith) in
+    subst (λ (byte : ℕ). TextBytes (take len rest) (byte ∷ [])) last
+    (subst (λ (bytes : List ℕ). TextBytes bytes (get_or (line_rest rest) (len - 1) 0 ∷ [])) front (step_means (line_rest rest) len e))
+
+-- what a text means so far, of which so many bytes stand before this rest
+pub record TextSoFar (bytes : List ℕ) (at : ℕ) (rest text : List ℕ) : Type 0 where
+  pub left : rest ≡ drop at bytes
+  pub good : TextBytes (take at bytes) text
+
+pub text_starts : (bytes text : List ℕ) → text ≡ [] → TextSoFar bytes 0 bytes text
+text_starts bytes text empty = record { left = refl; good = subst (TextBytes []) (sym empty) p.no_byte }
+
+pub text_goes : (bytes : List ℕ) (at : ℕ) (rest text behind newer : List ℕ) (len : ℕ) → step.Goes len ≡ text_step (line_rest rest) → 1 ≤ len → behind ≡ drop len rest
+    → newer ≡ text ++ get_or rest (len - 1) 0 ∷ [] → TextSoFar bytes at rest text → TextSoFar bytes (at + len) behind newer
+text_goes bytes at rest text behind newer len e some behind_is newer_is s = record {
+  left = behind_is ∙ ap (drop len) s.left ∙ drop-drop len at bytes;
+  good =
+      let here = means_here rest len e some in
+      let front : take (at + len) bytes ≡ take at bytes ++ take len rest = take-add at len bytes ∙ ap (λ (left : List ℕ). take at bytes ++ take len left) (sym s.left) in
+      rw (front, newer_is) (text_bytes_on (take at bytes) text (take len rest) (get_or rest (len - 1) 0 ∷ []) s.good here);
+}
+
+pub text_meant : (bytes : List ℕ) (at : ℕ) (rest text : List ℕ) → TextSoFar bytes at rest text → text ≡ meaning (take at bytes)
+text_meant bytes at rest text s = sym (meaning_is (take at bytes) text s.good)

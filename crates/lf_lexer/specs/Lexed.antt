@@ -1,11 +1,10 @@
 -- What is lexed so far, with one token more.
-use Rattle.std.specs.Prelude.{ℕ, ◌+◌, List, [], ◌∷◌, ◌++◌, length}
+use Rattle.std.specs.Prelude.{ℕ, ◌+◌, [], ◌∷◌, ◌++◌, length}
 use Rattle.lf_base.specs.Texts.{Text, place_of, with_text}
 use Rattle.lf_lexer.specs.declared.tokens.Lexeme.TheVariants as lexeme
 use Rattle.lf_lexer.specs.declared.tokens.Token.{Token}
 use Rattle.lf_lexer.specs.declared.lexed.Lexed.{Lexed}
 use Rattle.lf_lexer.specs.declared.line_start.LineStart.{LineStart}
-use Rattle.lf_lexer.specs.Meaning.{meaning}
 use Rattle.lf_lexer.specs.Places.{token_at}
 
 abbrev pub with_token : Lexed → Token → Lexed
@@ -18,9 +17,9 @@ with_name line lexed at name = record {
   texts = with_text lexed.texts name;
 }
 
--- a text in quotes, by the bytes between them, is numbered by what it means
-abbrev pub with_quoted : LineStart → Lexed → ℕ → List ℕ → Lexed
-with_quoted line lexed at bytes = record {
-  tokens = lexed.tokens ++ token_at line at (lexeme.Text (record { index = place_of lexed.texts (meaning bytes) })) (length bytes + 2) ∷ [];
-  texts = with_text lexed.texts (meaning bytes);
+-- a text with so many bytes between its quotes is numbered likewise
+abbrev pub with_quoted : LineStart → Lexed → ℕ → Text → ℕ → Lexed
+with_quoted line lexed at text len = record {
+  tokens = lexed.tokens ++ token_at line at (lexeme.Text (record { index = place_of lexed.texts text })) (len + 2) ∷ [];
+  texts = with_text lexed.texts text;
 }

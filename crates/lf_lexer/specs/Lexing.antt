@@ -13,6 +13,7 @@ use Rattle.lf_lexer.specs.declared.line.Step.TheVariants as step
 use Rattle.lf_lexer.specs.declared.lexed.Lexed.{Lexed}
 use Rattle.lf_lexer.specs.declared.line_start.LineStart.{LineStart}
 use Rattle.lf_lexer.specs.Places.{token_at}
+use Rattle.lf_lexer.specs.Meaning.{meaning}
 use Rattle.lf_lexer.specs.Lexed.{with_token, with_name, with_quoted}
 use Rattle.lf_lexer.specs.Pieces.{Form, Piece, RestSpells}
 use Rattle.lf_lexer.specs.SourceLines.{full_lines, is_blank}
@@ -35,7 +36,7 @@ pub record StartsEmpty (lexed : Lexed) : Type 0 where
 unfoldable pub with_front : LineStart → Lexed → ℕ → List ℕ → Front → Lexed
 with_front line lexed at bytes (front.Name len) = with_name line lexed at (take len bytes)
 with_front line lexed at bytes (front.Number value len) = with_token lexed (token_at line at (lexeme.Number value) len)
-with_front line lexed at bytes (front.Text len) = with_quoted line lexed at (take len (drop 1 bytes))
+with_front line lexed at bytes (front.Text len) = with_quoted line lexed at (meaning (take len (drop 1 bytes))) len
 with_front line lexed at bytes (front.Sign mark len) = with_token lexed (token_at line at (lexeme.Mark mark) len)
 with_front line lexed at bytes _ = lexed
 

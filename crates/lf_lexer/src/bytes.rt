@@ -1,10 +1,8 @@
 //! What the scans over bytes share.
 
-ghost use Rattle.std.specs.Prelude.{◌≡◌, ◌<◌, ◌≤◌, ◌^◌, ◌==◌, length, take, drop, not, None, Some, nat_lt, pos, if◌then◌else◌};
+ghost use Rattle.std.specs.Prelude.{◌≡◌, ◌≤◌, length};
 ghost use Rattle.std.specs.List.{prefix_len};
-ghost use Rattle.std.specs.Str.Parse.{digits_value};
 ghost use Rattle.lf_lexer.specs.Bytes as spec;
-ghost use Rattle.lf_lexer.specs.Bytes.{Passes};
 ghost use Rattle.lf_lexer.specs.LineRest as spec_rest;
 ghost use Rattle.lf_lexer.specs.SourceLines.{full_line_len, indentation};
 
@@ -43,33 +41,6 @@ pub fn name_len(bytes: &[u8]) -> usize
         }
     }
     bytes.len()
-}
-
-pub fn digits_len(bytes: &[u8]) -> usize
-    ensures len { result ≡ prefix_len spec.is_digit bytes.now }
-    ensures within { result ≤ length bytes.now }
-{
-    for (i, byte) in bytes.iter().enumerate() {
-        if !is_digit(*byte) {
-            return i;
-        }
-    }
-    bytes.len()
-}
-
-/// The value of decimal digits, if it is below 2^63.
-pub fn value(digits: &[u8]) -> Option<i64>
-    requires { Passes spec.is_digit digits.now }
-    ensures { result ≡ (if nat_lt (digits_value 10 digits.now) (2 ^ 63) then Some (pos (digits_value 10 digits.now)) else None) }
-{
-    let mut value: u128 = 0;
-    for digit in digits {
-        value = 10 * value + u128::from(*digit - b'0');
-        if value > 9_223_372_036_854_775_807 {
-            return None;
-        }
-    }
-    Some(value as i64)
 }
 
 /// The number of spaces at the front.

@@ -1,13 +1,14 @@
-ghost use Rattle.std.specs.Prelude.{◌≡◌, ◌+◌, length};
+ghost use Rattle.std.specs.Prelude.{◌≡◌, ◌∷◌, ◌+◌, ℕ, length, IfOk};
 ghost use Rattle.lf_lexer.specs.Front as spec;
 ghost use Rattle.lf_lexer.specs.FrontWithin.{TakesWithin};
 ghost use Rattle.lf_lexer.specs.LineRest.{line_rest};
+ghost use Rattle.lf_lexer.specs.Meaning.{FrontMeans};
 
-use crate::bytes::{digits_len, ends_line, is_digit, is_letter, name_len, value};
+use crate::bytes::{ends_line, is_digit, is_letter, name_len};
 use crate::marks::{long_sign, short_sign, word_of};
 use crate::texts::{TextEnd, text_end};
 use crate::tokens::Mark;
-use lf_base::RefusalKind;
+use lf_base::{OutOfMemory, RefusalKind};
 
 /// What stands at the front of the rest of a line.
 #[derive(Clone, Copy, Debug, PartialEq, Eq)]
@@ -28,24 +29,27 @@ pub enum Front {
 }
 
 /// What stands at the front of these bytes, which are left of the script, on their line.
+/// Where that is a text, `text` is then what it means. `OutOfMemory` comes only where
+/// memory runs out.
 #[tactic(auto, unfolding(crate::specs::Front::front))]
-pub fn front_of(bytes: &[u8]) -> Front
-    ensures front { result ≡ spec.front (line_rest bytes.now) }
-    ensures within { TakesWithin (length bytes.now) result }
+pub fn front_of(text: &mut Vec<u8>, bytes: &[u8]) -> Result<Front, OutOfMemory>
+    ensures front { IfOk result (λ front. front ≡ spec.front (line_rest bytes.now)) }
+    ensures within { IfOk result (λ front. TakesWithin (length bytes.now) front) }
+    ensures text { IfOk result (λ front. FrontMeans text.new.items bytes.now front) }
 {
     if ends_line(bytes) {
-        return Front::End;
+        return Ok(Front::End);
     }
     let [byte, rest @ ..] = bytes else {
-        return Front::End;
+        return Ok(Front::End);
     };
     match *byte {
-        b' ' => Front::Space,
-        b'#' => Front::End,
-        b'"' => text_front(rest),
-        byte if is_letter(byte) => name_front(bytes),
-        byte if is_digit(byte) => number_front(bytes),
-        byte => sign_front(byte, rest),
+        b' ' => Ok(Front::Space),
+        b'#' => Ok(Front::End),
+        b'"' => text_front(text, rest),
+        byte if is_letter(byte) => Ok(name_front(bytes)),
+        byte if is_digit(byte) => Ok(number_front(bytes)),
+        byte => Ok(sign_front(byte, rest)),
     }
 }
 
@@ -66,21 +70,28 @@ fn number_front(bytes: &[u8]) -> Front
     ensures front { result ≡ spec.number_front bytes.now }
     ensures within { TakesWithin (length bytes.now) result }
 {
-    let len = digits_len(bytes);
-    match value(&bytes[..len]) {
-        Some(value) => Front::Number(value, len),
-        None => Front::Refused(RefusalKind::WideNumber, 0),
+    let mut value: u128 = 0;
+    for (i, byte) in bytes.iter().enumerate() {
+        if !is_digit(*byte) {
+            return Front::Number(value as i64, i);
+        }
+        value = 10 * value + u128::from(*byte - b'0');
+        if value > 9_223_372_036_854_775_807 {
+            return Front::Refused(RefusalKind::WideNumber, 0);
+        }
     }
+    Front::Number(value as i64, bytes.len())
 }
 
-fn text_front(rest: &[u8]) -> Front
-    ensures front { result ≡ spec.text_front (line_rest rest.now) }
-    ensures within { TakesWithin (length rest.now + 1) result }
+fn text_front(text: &mut Vec<u8>, rest: &[u8]) -> Result<Front, OutOfMemory>
+    ensures front { IfOk result (λ front. front ≡ spec.text_front (line_rest rest.now)) }
+    ensures within { IfOk result (λ front. TakesWithin (length rest.now + 1) front) }
+    ensures text { IfOk result (λ front. (byte : ℕ) → FrontMeans text.new.items (byte ∷ rest.now) front) }
 {
-    match text_end(rest) {
-        TextEnd::Closed(len) => Front::Text(len),
-        TextEnd::Open => Front::Refused(RefusalKind::OpenText, 0),
-        TextEnd::Bad(at) => Front::Refused(RefusalKind::BadByte, at + 1),
+    match text_end(text, rest)? {
+        TextEnd::Closed(len) => Ok(Front::Text(len)),
+        TextEnd::Open => Ok(Front::Refused(RefusalKind::OpenText, 0)),
+        TextEnd::Bad(at) => Ok(Front::Refused(RefusalKind::BadByte, at + 1)),
     }
 }
 

@@ -2,10 +2,8 @@ ghost use Rattle.std.specs.Prelude.{◌≡◌, ◌<◌, ◌+◌, ◌^◌, length
 ghost use Rattle.lf_lexer.specs.Lexed.{with_token, with_name, with_quoted};
 
 use crate::line_start::LineStart;
-use crate::texts::meaning_of;
 use crate::tokens::{Lexeme, Token, Tokens};
 use lf_base::{OutOfMemory, Texts};
-use std::alloc::Global;
 
 /// The tokens of a script, and the texts that they name.
 #[derive(Drop)]
@@ -34,20 +32,19 @@ impl Lexed {
         self.push(line.token(at, Lexeme::Name(id), name.len() as u32))
     }
 
-    /// Adds the token of a text with these bytes between its quotes, whose first
-    /// byte stands at `at` in its line.
+    /// Adds the token of this text, which has so many bytes between its quotes, and
+    /// whose first byte stands at `at` in its line.
     pub fn push_quoted(
         &mut self,
-        alloc: Global,
         line: LineStart,
         at: u32,
-        bytes: &[u8],
+        text: &[u8],
+        len: usize,
     ) -> Result<(), OutOfMemory>
-        requires { line.start + at + length bytes.now + 3 < 2 ^ 32 }
-        ensures { OnOk result (self.new ≡ with_quoted line self.old at bytes.now) }
+        requires { line.start + at + len + 3 < 2 ^ 32 }
+        ensures { OnOk result (self.new ≡ with_quoted line self.old at text.now len) }
     {
-        let text = meaning_of(alloc, bytes)?;
-        let id = self.texts.intern(text.as_slice())?;
-        self.push(line.token(at, Lexeme::Text(id), bytes.len() as u32 + 2))
+        let id = self.texts.intern(text)?;
+        self.push(line.token(at, Lexeme::Text(id), len as u32 + 2))
     }
 }

@@ -12,7 +12,6 @@ use crate::lexed::Lexed;
 use crate::line_start::LineStart;
 use crate::tokens::Lexeme;
 use lf_base::{OutOfMemory, ReadFail, RefusalKind};
-use std::alloc::Global;
 
 /// What one step took from the front of a line's rest.
 #[derive(Clone, Copy, Debug, PartialEq, Eq)]
@@ -45,11 +44,11 @@ pub struct LineRead {
 }
 
 /// Adds the token at the front of the rest of a line, which begins at `at` in it.
-/// `rest` is all that is left of the script.
+/// `rest` is all that is left of the script, and `text` a buffer for what a text means.
 #[tactic(auto, unfolding(crate::specs::Lexing::with_front, crate::specs::Lexing::step_at))]
 fn lex_step(
-    alloc: Global,
     lexed: &mut Lexed,
+    text: &mut Vec<u8>,
     line: LineStart,
     at: u32,
     rest: &[u8],
@@ -59,7 +58,7 @@ fn lex_step(
     ensures step { IfOk result (λ step. step ≡ step_at (spec.front (line_rest rest.now))) }
     ensures within { IfOk result (λ step. StepsWithin (length rest.now) step) }
 {
-    match front_of(rest) {
+    match front_of(text, rest)? {
         Front::End => Ok(Step::End),
         Front::Space => Ok(Step::Space),
         Front::Name(len) => {
@@ -71,8 +70,7 @@ fn lex_step(
             Ok(Step::Piece(len))
         }
         Front::Text(len) => {
-            let (_, behind) = rest.split_at(1);
-            lexed.push_quoted(alloc, line, at, &behind[..len])?;
+            lexed.push_quoted(line, at, text.as_slice(), len)?;
             Ok(Step::Piece(len + 2))
         }
         Front::Sign(mark, len) => {
@@ -87,8 +85,8 @@ fn lex_step(
 /// of the script there. Refused exactly where no tokens spell the line's rest, at the
 /// first byte that is to blame.
 fn lex_pieces(
-    alloc: Global,
     lexed: &mut Lexed,
+    text: &mut Vec<u8>,
     line: LineStart,
     indent: u32,
     bytes: &[u8],
@@ -103,7 +101,7 @@ fn lex_pieces(
     let mut at: u32 = indent;
     let mut end: u32 = 0;
     loop {
-        match lex_step(alloc, lexed, line, at, rest)? {
+        match lex_step(lexed, text, line, at, rest)? {
             Step::End => return Ok(TokensEnd { end, stop: at }),
             Step::Space => {
                 let (_, after) = rest.split_at(1);
@@ -127,9 +125,9 @@ fn lex_pieces(
 /// none. `bytes` is all that is left of the script. Refused exactly where the line is
 /// not spelled, first for its indentation and then for its first byte that is to blame.
 pub fn lex_line(
-    alloc: Global,
     lexed: &mut Lexed,
     levels: &mut Levels,
+    text: &mut Vec<u8>,
     line: LineStart,
     bytes: &[u8],
 ) -> Result<LineRead, ReadFail>
@@ -148,7 +146,7 @@ pub fn lex_line(
         });
     }
     lex_indent(lexed, levels, line, indent as u32)?;
-    let tokens = lex_pieces(alloc, lexed, line, indent as u32, behind)?;
+    let tokens = lex_pieces(lexed, text, line, indent as u32, behind)?;
     lexed.push(line.token(tokens.end, Lexeme::NewLine, 0))?;
     let stop = tokens.stop as usize;
     let (_, left) = bytes.split_at(stop);

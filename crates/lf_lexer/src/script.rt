@@ -27,7 +27,8 @@ pub fn lex(alloc: Global, bytes: &[u8]) -> Result<Lexed, ReadFail>
         texts: Texts::new(alloc)?,
     };
     let mut levels = Levels::new(alloc);
-    let last = lex_lines(alloc, &mut lexed, &mut levels, bytes)?;
+    let mut text = Vec::new(alloc);
+    let last = lex_lines(&mut lexed, &mut levels, &mut text, bytes)?;
     close_script(&mut lexed, &mut levels, bytes.len() as u32, last)?;
     Ok(lexed)
 }
@@ -35,9 +36,9 @@ pub fn lex(alloc: Global, bytes: &[u8]) -> Result<Lexed, ReadFail>
 /// Adds the tokens of all lines, and answers the number of the last line that has
 /// a token, or 0 where none has one.
 fn lex_lines(
-    alloc: Global,
     lexed: &mut Lexed,
     levels: &mut Levels,
+    text: &mut Vec<u8>,
     bytes: &[u8],
 ) -> Result<u32, ReadFail>
     requires start { levels.old ≡ [] }
@@ -53,7 +54,7 @@ fn lex_lines(
     };
     let mut last = 0;
     while !rest.is_empty() {
-        let read = lex_line(alloc, lexed, levels, line, rest)?;
+        let read = lex_line(lexed, levels, text, line, rest)?;
         if read.filled {
             last = line.number;
         }

@@ -4,11 +4,10 @@ ghost use Rattle.std.specs.Prelude.{◌≡◌, ◌+◌, length, IfOk};
 ghost use Rattle.lf_lexer.specs.Front as spec;
 ghost use Rattle.lf_lexer.specs.FrontWithin.{EndsWithin, StepsWithin};
 ghost use Rattle.lf_lexer.specs.LineRest.{line_rest};
-ghost use Rattle.lf_lexer.specs.Meaning.{meaning};
+ghost use Rattle.lf_lexer.specs.Meaning.{EndMeans};
 
 use crate::bytes::{ends_line, is_text_byte};
 use lf_base::OutOfMemory;
-use std::alloc::Global;
 
 /// How a text ends.
 #[derive(Clone, Copy, Debug, PartialEq, Eq)]
@@ -30,23 +29,28 @@ enum TextStep {
     Open,
     /// What can't stand there, at the byte behind so many.
     Bad(usize),
-    /// A part of the text, of so many bytes.
+    /// A part of the text, of so many bytes. It stands for the last of them.
     Goes(usize),
 }
 
-/// How the text ends behind whose opening quote these bytes are left of the script.
-pub fn text_end(bytes: &[u8]) -> TextEnd
-    ensures end { result ≡ spec.text_end 0 (line_rest bytes.now) }
-    ensures within { EndsWithin (length bytes.now) result }
+/// Reads a text behind whose opening quote these bytes are left of the script: how it
+/// ends. `text` is then what its bytes mean, each pair standing for its second byte.
+/// `OutOfMemory` comes only where memory runs out.
+pub fn text_end(text: &mut Vec<u8>, bytes: &[u8]) -> Result<TextEnd, OutOfMemory>
+    ensures end { IfOk result (λ end. end ≡ spec.text_end 0 (line_rest bytes.now)) }
+    ensures within { IfOk result (λ end. EndsWithin (length bytes.now) end) }
+    ensures text { IfOk result (λ end. EndMeans text.new.items bytes.now end) }
 {
+    text.clear();
     let mut rest = bytes;
     let mut at = 0;
     loop {
         match text_step(rest) {
-            TextStep::Closes => return TextEnd::Closed(at),
-            TextStep::Open => return TextEnd::Open,
-            TextStep::Bad(offset) => return TextEnd::Bad(at + offset),
+            TextStep::Closes => return Ok(TextEnd::Closed(at)),
+            TextStep::Open => return Ok(TextEnd::Open),
+            TextStep::Bad(offset) => return Ok(TextEnd::Bad(at + offset)),
             TextStep::Goes(len) => {
+                text.push(rest[len - 1])?;
                 let (_, behind) = rest.split_at(len);
                 rest = behind;
                 at += len;
@@ -83,27 +87,4 @@ fn pair_step(behind: &[u8]) -> TextStep
         [b'"' | b'\\', ..] => TextStep::Goes(2),
         _ => TextStep::Bad(1),
     }
-}
-
-/// The text that bytes between quotes mean: each pair stands for its second byte.
-/// `OutOfMemory` comes only where memory runs out.
-#[tactic(auto, unfolding(crate::specs::Meaning::meaning))]
-pub fn meaning_of(alloc: Global, bytes: &[u8]) -> Result<Vec<u8>, OutOfMemory>
-    ensures { IfOk result (λ text. text.items ≡ meaning bytes.now) }
-{
-    let mut text = Vec::new(alloc);
-    let mut rest = bytes;
-    while let [byte, behind @ ..] = rest {
-        rest = match behind {
-            [next, behind_pair @ ..] if *byte == b'\\' => {
-                text.push(*next)?;
-                behind_pair
-            }
-            _ => {
-                text.push(*byte)?;
-                behind
-            }
-        };
-    }
-    Ok(text)
 }
