@@ -13,7 +13,7 @@ use crate::expr::{Expr, Exprs};
 use crate::halt::{Cause, Halt};
 use crate::lists::with;
 use crate::name::Name;
-use crate::nodes::{and, binary, field, moved, neg, not, or};
+use crate::nodes::{and, binary, field, neg, not, or};
 use lf_lexer::{Mark, Token};
 use std::alloc::Global;
 
@@ -290,7 +290,7 @@ impl<F: Fn(Global, &mut Cursor<'_>, usize, Entry) -> Result<Expr, Halt>> Grammar
     {
         cursor.sign(Mark::Move)?;
         let place = self.spot(cursor)?;
-        Ok(moved(place))
+        Ok(place.moved())
     }
 
     #[tactic(auto, unfolding(crate::specs::Reading::unary))]

@@ -1,10 +1,8 @@
 ghost use Rattle.std.specs.Prelude.{◌≡◌, IfOk};
-ghost use Rattle.lf_parser.specs.Grammar as grammar;
-ghost use Rattle.lf_parser.specs.Plain.{plain_expr, plain_stmt};
+ghost use Rattle.lf_parser.specs.Plain.{plain_expr};
 ghost use Rattle.lf_parser.specs.Plain as plain;
 
 use crate::expr::Expr;
-use crate::stmt::Stmt;
 use lf_base::Op;
 use sqlite_items::Boxed;
 use std::alloc::{AllocError, Global};
@@ -62,31 +60,4 @@ pub fn or(alloc: Global, left: Expr, right: Expr) -> Result<Expr, AllocError>
         left: Boxed::new(alloc, left)?,
         right: Boxed::new(alloc, right)?,
     })
-}
-
-/// A place as `move` takes it. What is no place stays as it is.
-pub fn moved(place: Expr) -> Expr
-    ensures { plain_expr result ≡ grammar.moved (plain_expr place) }
-{
-    match place {
-        Expr::Var(name) => Expr::Move(name),
-        Expr::Field { target, key } => Expr::Remove { target, key },
-        other => other,
-    }
-}
-
-/// The statement that gives a place a value. What is no place is evaluated alone.
-pub fn assigned(line: u32, place: Expr, value: Expr) -> Stmt
-    ensures { plain_stmt result ≡ grammar.assigned line (plain_expr place) (plain_expr value) }
-{
-    match place {
-        Expr::Var(name) => Stmt::Assign { line, name, value },
-        Expr::Field { target, key } => Stmt::Store {
-            line,
-            target: target.into_inner(),
-            key: key.into_inner(),
-            value,
-        },
-        _ => Stmt::Eval { line, value },
-    }
 }

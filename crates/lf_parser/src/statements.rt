@@ -16,7 +16,6 @@ use crate::halt::{Cause, Halt};
 use crate::lists::with;
 use crate::name::{Name, Names};
 use crate::names::{names, some_names};
-use crate::nodes::assigned;
 use crate::stmt::{Block, Stmt};
 use lf_lexer::Mark;
 use std::alloc::Global;
@@ -236,7 +235,7 @@ impl<F: Fn(Global, &mut Cursor<'_>, usize) -> Result<Block, Halt>> Statements<F>
     {
         cursor.sign(Mark::Assign)?;
         let value = self.an_expr(cursor)?;
-        Ok(assigned(line, place, value))
+        Ok(place.assigned(line, value))
     }
 
     #[tactic(auto, unfolding(crate::specs::Reading::behind_spot))]
