@@ -12,4 +12,5 @@ pub mod RefusalPlaces
 pub mod Rising
 pub mod SetsOfNames
 pub mod VariableOrder
+pub mod Visiting
 pub mod WhenOrder

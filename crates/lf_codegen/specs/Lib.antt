@@ -1,4 +1,5 @@
 pub mod Mentions
+pub mod Parts
 pub mod Frames
 pub mod Callees
 pub mod NameRefusals

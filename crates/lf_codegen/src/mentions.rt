@@ -1,9 +1,10 @@
 //! All that the body of a frame mentions, in the order of the script.
 
-ghost use Rattle.std.specs.Prelude.{◌≡◌, ◌++◌, map, IfOk, OnOk};
+ghost use Rattle.std.specs.Prelude.{◌≡◌, ◌++◌, ◌∷◌, [], map, IfOk, OnOk};
 ghost use Rattle.lf_codegen.specs.declared.mention.Mention.TheVariants.{Call};
 ghost use Rattle.lf_parser.specs.Plain.{args_of, plain_block, plain_expr, plain_stmt, plain_value};
-ghost use Rattle.lf_codegen.specs.Mentions.{are_one_variable as one_variable_spec, is_variable as variable_spec, args_count, args_mentions, block_mentions, expr_mentions, stmt_mentions, uses as uses_of, value_mentions};
+ghost use Rattle.lf_codegen.specs.Mentions.{are_one_variable as one_variable_spec, is_variable as variable_spec, args_count, block_mentions, expr_mentions, stmt_mentions, uses as uses_of, value_mentions};
+ghost use Rattle.lf_codegen.specs.Parts.{args_back, own_mentions, parts_back, plain_lent};
 
 use crate::mention::Mention;
 use lf_base::OutOfMemory;
@@ -37,37 +38,61 @@ fn call(name: Name, args: &Exprs) -> Mention
     }
 }
 
-#[cycle(expressions)]
-fn of_expr(out: &mut Mentions, expr: &Expr) -> Result<(), OutOfMemory>
-    ensures { OnOk result (out.new.items ≡ out.old.items ++ expr_mentions (plain_expr expr.now)) }
+// Expressions that are still to be visited, the next one last.
+type Unvisited<'a> = Vec<&'a Expr>;
+
+// Leaves an expression to be visited next.
+fn leave<'a>(unvisited: &mut Unvisited<'a>, expr: &'a Expr) -> Result<(), OutOfMemory>
+    ensures { OnOk result (plain_lent unvisited.new.items ≡ plain_lent unvisited.old.items ++ plain_expr expr.now ∷ []) }
+{
+    Ok(unvisited.push(expr)?)
+}
+
+// Leaves arguments to be visited, the first one next.
+fn leave_args<'a>(unvisited: &mut Unvisited<'a>, args: &'a [Expr]) -> Result<(), OutOfMemory>
+    ensures { OnOk result (plain_lent unvisited.new.items ≡ plain_lent unvisited.old.items ++ args_back (args_of (map plain_expr args.now))) }
+{
+    Ok(unvisited.extend(args.iter().rev())?)
+}
+
+// Adds what an expression mentions itself, and leaves its parts to be visited, the first one next.
+fn visit<'a>(
+    out: &mut Mentions,
+    unvisited: &mut Unvisited<'a>,
+    expr: &'a Expr,
+) -> Result<(), OutOfMemory>
+    ensures own { OnOk result (out.new.items ≡ out.old.items ++ own_mentions (plain_expr expr.now)) }
+    ensures parts { OnOk result (plain_lent unvisited.new.items ≡ plain_lent unvisited.old.items ++ parts_back (plain_expr expr.now)) }
 {
     match expr {
         Expr::None | Expr::True | Expr::False | Expr::Number(_) | Expr::Text(_) | Expr::Object => {
             Ok(())
         }
         Expr::Var(name) | Expr::Move(name) => Ok(out.push(Mention::Use(*name))?),
-        Expr::Neg(operand) | Expr::Not(operand) => of_expr(out, operand.get()),
+        Expr::Neg(operand) | Expr::Not(operand) => leave(unvisited, operand.get()),
         Expr::Field { target, key } | Expr::Remove { target, key } => {
-            of_expr(out, target.get())?;
-            of_expr(out, key.get())
+            leave(unvisited, key.get())?;
+            leave(unvisited, target.get())
         }
         Expr::Binary { left, right, .. } | Expr::And { left, right } | Expr::Or { left, right } => {
-            of_expr(out, left.get())?;
-            of_expr(out, right.get())
+            leave(unvisited, right.get())?;
+            leave(unvisited, left.get())
         }
         Expr::Call { name, args } => {
             out.push(call(*name, args))?;
-            of_args(out, args.as_slice())
+            leave_args(unvisited, args.as_slice())
         }
     }
 }
 
-#[cycle(expressions)]
-fn of_args(out: &mut Mentions, args: &[Expr]) -> Result<(), OutOfMemory>
-    ensures { OnOk result (out.new.items ≡ out.old.items ++ args_mentions (args_of (map plain_expr args.now))) }
+// A chain of operators is as deep as it is long, so its tree is walked by a loop.
+fn of_expr(out: &mut Mentions, expr: &Expr) -> Result<(), OutOfMemory>
+    ensures { OnOk result (out.new.items ≡ out.old.items ++ expr_mentions (plain_expr expr.now)) }
 {
-    for arg in args {
-        of_expr(out, arg)?;
+    let mut unvisited = Unvisited::new(*out.allocator());
+    leave(&mut unvisited, expr)?;
+    while let Some(next) = unvisited.pop() {
+        visit(out, &mut unvisited, next)?;
     }
     Ok(())
 }
