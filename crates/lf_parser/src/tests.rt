@@ -1,8 +1,9 @@
 ghost use Rattle.std.specs.Prelude.{IsTrue};
 ghost use Rattle.lf_parser.specs.Refusals.{EndsOnce};
 
+use crate::nodes::binary;
 use crate::{Expr, Stmt, Tree, parse};
-use lf_base::{Op, Place, ReadFail, RefusalKind, TextId, Texts};
+use lf_base::{Op, OutOfMemory, Place, ReadFail, RefusalKind, TextId, Texts};
 use lf_lexer::{Lexed, Lexeme, Mark, Token, Tokens};
 use std::alloc::Global;
 use std::process::Abort;
@@ -427,4 +428,21 @@ fn makes_the_tree(rt: HostRuntime) {
         }
         _ => assert!(rt; false),
     }
+}
+
+/// A sum with so many terms behind its first.
+fn long_sum(alloc: Global, terms: i64) -> Result<Expr, OutOfMemory> {
+    let mut sum = Expr::Number(0);
+    for term in 0..terms {
+        sum = binary(alloc, Op::Add, sum, Expr::Number(term))?;
+    }
+    Ok(sum)
+}
+
+// No stack has room for a call for each of its terms.
+#[test]
+fn a_long_chain_is_freed(rt: HostRuntime) -> Result<(), Fail> {
+    let sum = long_sum(rt.alloc(), 200_000)?;
+    assert!(rt; matches!(&sum, Expr::Binary { op: Op::Add, .. }));
+    Ok(())
 }
