@@ -1,4 +1,4 @@
-use Rattle.std.proofs.Common.{◌≡◌, ◌++◌, map, reverse, OnOk, rules}
+use Rattle.std.proofs.Common.{◌≡◌, ◌++◌, map, OnOk, rules}
 use Rattle.std.proofs.lemmas.Iterator.Adapters.{YieldsList-from_rev_slice, fact_from_extend}
 use Rattle.lf_parser.specs.Plain.{args_of, plain_expr}
 use Rattle.lf_codegen.specs.Parts.{args_back, plain_lent}
