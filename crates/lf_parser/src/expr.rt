@@ -86,7 +86,7 @@ impl Drop for Expr {
 
 impl Expr {
     /// A place as `move` takes it. What is no place stays as it is.
-    pub fn moved(self) -> Expr
+    pub(crate) fn moved(self) -> Expr
         ensures { plain_expr result ≡ grammar.moved (plain_expr self) }
     {
         match self {
@@ -98,7 +98,7 @@ impl Expr {
 
     /// The statement that gives a place a value. What is no place is left out, and the value is
     /// evaluated alone.
-    pub fn assigned(self, line: u32, value: Expr) -> Stmt
+    pub(crate) fn assigned(self, line: u32, value: Expr) -> Stmt
         ensures { plain_stmt result ≡ grammar.assigned line (plain_expr self) (plain_expr value) }
     {
         match self {
