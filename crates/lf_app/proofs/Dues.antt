@@ -3,12 +3,13 @@ use Rattle.std.proofs.Common.{◌≡◌, ◌∙◌, ◌≤◌, ◌<◌, ◌^◌,
 use Rattle.std.proofs.lemmas.Bool.{le-ltb}
 use Rattle.std.specs.Io.KnownBytes.{Consumes, IsAtEnd}
 use Rattle.lf_outside.specs.Streams.{Stream}
+use Rattle.lf_base.specs.declared.limits.TheConstants.{MOST_SCRIPT_BYTES}
 use Rattle.lf_app.specs.declared.commands.Command.{Command}
 use Rattle.lf_app.specs.declared.outcomes.Outcome.{Outcome}
 use Rattle.lf_app.specs.declared.reports.Report.{Report}
 use Rattle.lf_app.specs.declared.statuses.Status.{Status}
 use Rattle.lf_app.specs.Words.{command_of}
-use Rattle.lf_app.specs.Answers.{most_bytes, IsDue, IsDueOf, IsDueFor}
+use Rattle.lf_app.specs.Answers.{IsDue, IsDueOf, IsDueFor}
 use Rattle.lf_app.specs.Outcomes.{IsOutcome, WritesOutcome}
 
 -- what a source told and what was read to its end is one
@@ -21,12 +22,12 @@ told_is_read (Some xs) (Some ys) bytes told read ended tells =
 
 -- a script that was read and judged gives the status that is due
 pub due_is_met : (words : List (List ℕ)) (command : Command) (left left_after : Option (List ℕ)) (bytes : List ℕ) (outcome : Outcome) (status : Status)
-    → command_of words ≡ Some command → length bytes ≤ most_bytes → Consumes left left_after bytes → IsAtEnd left_after → IsOutcome command bytes outcome → status ≡ outcome.status
+    → command_of words ≡ Some command → length bytes ≤ MOST_SCRIPT_BYTES → Consumes left left_after bytes → IsAtEnd left_after → IsOutcome command bytes outcome → status ≡ outcome.status
     → (told : List ℕ) → left ≡ Some told → IsDue words told status
 due_is_met words command left left_after bytes outcome status command_is short read ended of status_is told tells =
     let same = told_is_read left left_after bytes told read ended tells in
     let judged : IsDueOf command bytes false status = (of.verdict, of.is_verdict, status_is ∙ of.is_of.status_is) in
-    let of_bytes = subst (λ b. IsDueOf command bytes b status) (sym (le-ltb most_bytes (length bytes) short)) judged in
+    let of_bytes = subst (λ b. IsDueOf command bytes b status) (sym (le-ltb MOST_SCRIPT_BYTES (length bytes) short)) judged in
     let of_told : IsDueFor (Some command) told status = subst (λ (these : List ℕ). IsDueFor (Some command) these status) (sym same) of_bytes in
     subst (λ o. IsDueFor o told status) (sym command_is) of_told
 

@@ -2,7 +2,7 @@
 use Rattle.std.proofs.Common.{ℕ, List, inr, refl}
 use Rattle.lf_base.specs.Texts.{Text}
 use Rattle.lf_parser.specs.Plain.{PlainTree}
-use Rattle.lf_codegen.specs.Reading.{IsRead}
+use Rattle.lf_codegen.specs.ScriptReading.{IsRead}
 use Rattle.lf_app.specs.declared.commands.Command.{Command}
 use Rattle.lf_app.specs.declared.outcomes.Outcome.{Outcome}
 use Rattle.lf_app.specs.Verdicts.{IsOfTree, tree_verdict}

@@ -1,4 +1,4 @@
-pub mod Arguments
+pub mod LoneArguments
 pub mod Dues
 pub mod Judging
 pub mod OneVerdict

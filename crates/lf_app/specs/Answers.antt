@@ -1,20 +1,18 @@
 -- What a call of the program may answer, and what it has then read and written.
 use Rattle.std.specs.Prelude.{◌≡◌, ◌≤◌, ◌+◌, ◌⊎◌, ℕ, Bool, true, false, List, [], length, nat_lt, Option, Some, None}
 use Rattle.std.specs.Io.KnownBytes.{Consumes, Appends, IsAtEnd}
+use Rattle.lf_base.specs.declared.limits.TheConstants.{MOST_SCRIPT_BYTES}
 use Rattle.lf_outside.specs.Causes.{Rose}
-use Rattle.lf_outside.specs.Streams.{Stream}
-use Rattle.lf_outside.specs.Transfer.{AppendsFront, ConsumesSome, ConsumesUpTo}
+use Rattle.lf_outside.specs.Streams.{Stream, stream_of}
+use Rattle.lf_outside.specs.Transfer.{AppendsPrefix, ConsumesSome, ConsumesUpTo}
 use Rattle.lf_app.specs.declared.statuses.Status.{Status}
-use Rattle.lf_app.specs.declared.statuses.Status.TheVariants.{Done, Faulted, ScriptRefused, WordsRefused, Stopped, ReadFault, WriteFault, OutOfMemory, ScriptTooLong}
+use Rattle.lf_app.specs.declared.statuses.Status.TheVariants.{Done, Faulted, ScriptRefused, WordsRefused, Stopped, ReadFault, WriteFault}
+use Rattle.lf_app.specs.declared.statuses.Status.TheVariants.{OutOfMemory, ScriptTooLong}
 use Rattle.lf_app.specs.declared.reports.Report.{Report}
 use Rattle.lf_app.specs.declared.commands.Command.{Command}
 use Rattle.lf_app.specs.Words.{command_of}
 use Rattle.lf_app.specs.Verdicts.{Verdict, Runs, Checked, Refuses, IsVerdict}
 use Rattle.lf_app.specs.Output.{output_of, journal_of}
-
--- the longest script, in bytes
-abbrev pub most_bytes : ℕ
-most_bytes = 1048576
 
 -- the status of a script's verdict
 abbrev pub due_of : Verdict → Status
@@ -30,7 +28,7 @@ IsDueOf command bytes false status = (verdict : Verdict) × IsVerdict command by
 -- the status that is due for these words and this source, where nothing fails
 abbrev pub IsDueFor : Option Command → List ℕ → Status → Type 0
 IsDueFor None bytes status = status ≡ WordsRefused
-IsDueFor (Some command) bytes status = IsDueOf command bytes (nat_lt most_bytes (length bytes)) status
+IsDueFor (Some command) bytes status = IsDueOf command bytes (nat_lt MOST_SCRIPT_BYTES (length bytes)) status
 
 abbrev pub IsDue : List (List ℕ) → List ℕ → Status → Type 0
 IsDue words bytes status = IsDueFor (command_of words) bytes status
@@ -43,12 +41,20 @@ pub record Call : Type 0 where
   pub sink : Stream
   pub sink_after : Stream
 
-abbrev pub call : List (List ℕ) → Stream → Stream → Stream → Stream → Call
-call words source source_after sink sink_after = record { words = words; source = source; source_after = source_after; sink = sink; sink_after = sink_after }
+-- the call with these words, of a source and a sink of which the first four tell the bytes and the faults, each before and after
+abbrev pub call_of : {S K : Type 0} → (S → Option (List ℕ)) → (S → ℕ) → (K → Option (List ℕ)) → (K → ℕ) → List (List ℕ) → S → S → K → K
+    → Call
+call_of left source_faults held sink_faults words source source_after sink sink_after = record {
+  words = words;
+  source = stream_of left source_faults source;
+  source_after = stream_of left source_faults source_after;
+  sink = stream_of held sink_faults sink;
+  sink_after = stream_of held sink_faults sink_after;
+}
 
 -- the whole script was read, and is no longer than a script may be
 pub record ReadsScript (call : Call) (bytes : List ℕ) : Type 0 where
-  pub short : length bytes ≤ most_bytes
+  pub short : length bytes ≤ MOST_SCRIPT_BYTES
   pub read : Consumes call.source.bytes call.source_after.bytes bytes
   pub ended : IsAtEnd call.source_after.bytes
   pub faults : call.source_after.faults ≡ call.source.faults
@@ -66,7 +72,7 @@ pub record Completes (call : Call) (report : Report) : Type 0 where
   pub written : Appends call.sink.bytes call.sink_after.bytes (output_of verdict)
   pub faults : call.sink_after.faults ≡ call.sink.faults
 
--- a script was read and judged, and the sink failed behind a front of what is due
+-- a script was read and judged, and the sink failed after a prefix of what is due
 pub record WriteFails (call : Call) (report : Report) : Type 0 where
   pub command : Command
   pub command_is : command_of call.words ≡ Some command
@@ -75,7 +81,7 @@ pub record WriteFails (call : Call) (report : Report) : Type 0 where
   pub verdict : Verdict
   pub is_verdict : IsVerdict command bytes verdict
   pub order : report.order ≡ journal_of verdict
-  pub written : AppendsFront (output_of verdict) call.sink.bytes call.sink_after.bytes
+  pub written : AppendsPrefix (output_of verdict) call.sink.bytes call.sink_after.bytes
   pub rose : Rose call.sink.faults call.sink_after.faults
 
 -- the words are no command, and neither the source nor the sink was asked
@@ -90,7 +96,7 @@ pub record ReadFails (call : Call) (report : Report) : Type 0 where
   pub command : Command
   pub command_is : command_of call.words ≡ Some command
   pub order : report.order ≡ []
-  pub read : ConsumesUpTo most_bytes call.source.bytes call.source_after.bytes
+  pub read : ConsumesUpTo MOST_SCRIPT_BYTES call.source.bytes call.source_after.bytes
   pub rose : Rose call.source.faults call.source_after.faults
   pub sink : call.sink_after ≡ call.sink
 
@@ -99,16 +105,16 @@ pub record FindsTooLong (call : Call) (report : Report) : Type 0 where
   pub command : Command
   pub command_is : command_of call.words ≡ Some command
   pub order : report.order ≡ []
-  pub read : ConsumesSome (most_bytes + 1) call.source.bytes call.source_after.bytes
+  pub read : ConsumesSome (MOST_SCRIPT_BYTES + 1) call.source.bytes call.source_after.bytes
   pub faults : call.source_after.faults ≡ call.source.faults
   pub sink : call.sink_after ≡ call.sink
 
--- memory ran out before anything was written, and the sink wasn't asked
+-- there was no memory, of which no clause says when that comes: the sink wasn't asked
 pub record LacksMemory (call : Call) (report : Report) : Type 0 where
   pub command : Command
   pub command_is : command_of call.words ≡ Some command
   pub order : report.order ≡ []
-  pub read : ConsumesUpTo most_bytes call.source.bytes call.source_after.bytes
+  pub read : ConsumesUpTo MOST_SCRIPT_BYTES call.source.bytes call.source_after.bytes
   pub faults : call.source_after.faults ≡ call.source.faults
   pub sink : call.sink_after ≡ call.sink
 
@@ -127,7 +133,8 @@ Says call report ScriptTooLong = FindsTooLong call report
 abbrev pub Answers : Call → Report → Type 0
 Answers call report = Says call report report.status
 
--- where the source told its bytes and nothing failed, the status is the due one, or memory ran out
+-- where the source told its bytes and nothing failed, the status is the due one, or want of memory
 abbrev pub IsComplete : Call → Report → Type 0
-IsComplete call report = (bytes : List ℕ) → call.source.bytes ≡ Some bytes → call.source_after.faults ≡ call.source.faults → call.sink_after.faults ≡ call.sink.faults
+IsComplete call report = (bytes : List ℕ) → call.source.bytes ≡ Some bytes → call.source_after.faults ≡ call.source.faults
+    → call.sink_after.faults ≡ call.sink.faults
     → IsDue call.words bytes report.status ⊎ (report.status ≡ OutOfMemory)

@@ -7,5 +7,5 @@ use Rattle.lf_base.specs.declared.ids.TextId.{TextId}
 use Rattle.lf_base.specs.Texts.{same_text}
 
 -- the value of a field in a map
-abbrev pub value_at : HashMap TextId ℕ (BuildHasherDefault FoldHasher) → TextId → Option ℕ
-value_at fields field = get same_text fields field
+abbrev pub field_value : HashMap TextId ℕ (BuildHasherDefault FoldHasher) → TextId → Option ℕ
+field_value fields field = get same_text fields field

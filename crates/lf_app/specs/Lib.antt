@@ -6,5 +6,5 @@ pub mod Output
 pub mod Answers
 pub mod WorkedRows
 pub mod Fields
-pub mod Standing
+pub mod WalkFollows
 pub mod Outcomes

@@ -3,7 +3,7 @@ use Rattle.std.specs.Prelude.{◌≡◌, ◌⊎◌, ℕ, List, string_bytes}
 use Rattle.std.specs.Io.KnownBytes.{Appends}
 use Rattle.lf_outside.specs.Causes.{Rose}
 use Rattle.lf_outside.specs.Streams.{Stream}
-use Rattle.lf_outside.specs.Transfer.{AppendsFront}
+use Rattle.lf_outside.specs.Transfer.{AppendsPrefix}
 use Rattle.lf_app.specs.declared.commands.Command.{Command}
 use Rattle.lf_app.specs.declared.reports.Report.{Report}
 use Rattle.lf_app.specs.declared.statuses.Status.TheVariants.{WriteFault}
@@ -31,11 +31,11 @@ pub record IsWritten (sink sink_after : Stream) (outcome : Outcome) (report : Re
   pub all : Appends sink.bytes sink_after.bytes (string_bytes outcome.text)
   pub kept : sink_after.faults ≡ sink.faults
 
--- the sink failed behind a front of the text
+-- the sink failed after a prefix of the text
 pub record IsCut (sink sink_after : Stream) (outcome : Outcome) (report : Report) : Type 0 where
   pub status_is : report.status ≡ WriteFault
   pub order_is : report.order ≡ outcome.order
-  pub front : AppendsFront (string_bytes outcome.text) sink.bytes sink_after.bytes
+  pub prefix : AppendsPrefix (string_bytes outcome.text) sink.bytes sink_after.bytes
   pub rose : Rose sink.faults sink_after.faults
 
 abbrev pub WritesOutcome : Stream → Stream → Outcome → Report → Type 0

@@ -12,7 +12,8 @@ with_feed line = line ++ 10 ∷ []
 -- the line of a refusal
 abbrev pub refusal_line : Refusal → List ℕ
 refusal_line refusal =
-    with_feed (codes "refused " ++ kind_name refusal.kind ++ codes " at line " ++ decimal refusal.place.line ++ codes " column " ++ decimal refusal.place.column)
+    with_feed (codes "refused " ++ kind_name refusal.kind
+    ++ codes " at line " ++ decimal refusal.place.line ++ codes " column " ++ decimal refusal.place.column)
 
 -- the printed numbers, a line each
 abbrev pub printed_lines : List ℕ → List ℕ

@@ -1,7 +1,8 @@
 -- The number and the name of each status.
 use Rattle.std.specs.Prelude.{ℕ, List, codes}
 use Rattle.lf_app.specs.declared.statuses.Status.{Status}
-use Rattle.lf_app.specs.declared.statuses.Status.TheVariants.{Done, Faulted, ScriptRefused, WordsRefused, Stopped, ReadFault, WriteFault, OutOfMemory, ScriptTooLong}
+use Rattle.lf_app.specs.declared.statuses.Status.TheVariants.{Done, Faulted, ScriptRefused, WordsRefused, Stopped, ReadFault, WriteFault}
+use Rattle.lf_app.specs.declared.statuses.Status.TheVariants.{OutOfMemory, ScriptTooLong}
 
 abbrev pub status_number : Status → ℕ
 status_number Done = 0

@@ -4,7 +4,7 @@ use Rattle.lf_base.specs.declared.refusals.Refusal.{Refusal}
 use Rattle.lf_base.specs.declared.refusals.RefusalKind.TheVariants.{NotBuilt}
 use Rattle.lf_base.specs.Texts.{Text}
 use Rattle.lf_parser.specs.Plain.{PlainTree}
-use Rattle.lf_codegen.specs.Reading.{IsRead, IsFirstRefusal}
+use Rattle.lf_codegen.specs.ScriptReading.{IsRead, IsFirstRefusal}
 use Rattle.lf_app.specs.declared.commands.Command.{Command}
 use Rattle.lf_app.specs.declared.commands.Command.TheVariants.{Run, Check}
 use Rattle.lf_app.specs.FirstForm.{Course, Prints, Leaves, course}

@@ -7,26 +7,30 @@ use Rattle.lf_parser.specs.Plain.{Yes, Number, Text, Object, Var, Field, Binary,
 use Rattle.lf_app.specs.FirstForm.{Course, Prints, Leaves, course}
 
 -- a name of this id. Places of variables are not looked at
-abbrev pub named : ℕ → Name
-named id = record { id = record { index = id }; place = record { line = 1; column = 1 } }
+abbrev pub name_of_id : ℕ → Name
+name_of_id id = record { id = record { index = id }; place = record { line = 1; column = 1 } }
 
 abbrev pub n : ℕ → PlainExpr
 n value = Number (pos value)
 
 abbrev pub read : ℕ → ℕ → PlainExpr
-read object field = Field (Var (named object)) (Text (record { index = field }))
+read object field = Field (Var (name_of_id object)) (Text (record { index = field }))
 
 abbrev pub make : ℕ → ℕ → PlainStmt
-make line object = Assign line (named object) Object
+make line object = Assign line (name_of_id object) Object
 
 abbrev pub put : ℕ → ℕ → ℕ → PlainExpr → PlainStmt
-put line object field value = Store line (Var (named object)) (Text (record { index = field })) value
+put line object field value = Store line (Var (name_of_id object)) (Text (record { index = field })) value
 
 abbrev pub print : ℕ → PlainExpr → PlainStmt
-print line value = Eval line (Call (named 5) (arg value no_args))
+print line value = Eval line (Call (name_of_id 5) (arg value no_args))
 
 abbrev pub def_at : ℕ → PlainFunction
-def_at line = record { name = record { id = record { index = 30 }; place = record { line = line; column = 5 } }; params = []; body = no_stmts }
+def_at line = record {
+  name = record { id = record { index = 30 }; place = record { line = line; column = 5 } };
+  params = [];
+  body = no_stmts;
+}
 
 -- the course of a script without functions
 abbrev pub course_of : List PlainStmt → Course
@@ -43,7 +47,8 @@ FirstSumShows = course_of (make 1 20 ∷ put 2 20 21 (Binary Add (n 41) (n 1)) �
 -- a field is copied, and then written again
 abbrev pub RewrittenFieldShows : Type 0
 RewrittenFieldShows =
-    course_of (make 1 20 ∷ put 2 20 21 (n 7) ∷ put 3 20 22 (read 20 21) ∷ put 4 20 21 (n 3) ∷ print 5 (read 20 22) ∷ print 6 (read 20 21) ∷ []) ≡ Prints (7 ∷ 3 ∷ [])
+    course_of (make 1 20 ∷ put 2 20 21 (n 7) ∷ put 3 20 22 (read 20 21) ∷ put 4 20 21 (n 3)
+    ∷ print 5 (read 20 22) ∷ print 6 (read 20 21) ∷ []) ≡ Prints (7 ∷ 3 ∷ [])
 
 -- `print` may be the name of the object, and of its field
 abbrev pub PrintIsNoWordShows : Type 0
@@ -55,13 +60,17 @@ LeavesAtSecond second = course_of (make 1 20 ∷ second ∷ print 3 (n 1) ∷ []
 
 -- a second object, another object's field, a field that has no value
 abbrev pub WrongNamesShow : Type 0
-WrongNamesShow = LeavesAtSecond (make 2 20) × LeavesAtSecond (put 2 22 21 (n 1)) × LeavesAtSecond (print 2 (read 20 21)) × LeavesAtSecond (put 2 20 21 (read 20 21))
+WrongNamesShow =
+    LeavesAtSecond (make 2 20) × LeavesAtSecond (put 2 22 21 (n 1))
+    × LeavesAtSecond (print 2 (read 20 21)) × LeavesAtSecond (put 2 20 21 (read 20 21))
 
 -- a number that is too large, a negative one, three summands, a difference, no number, two arguments
 abbrev pub WrongValuesShow : Type 0
 WrongValuesShow =
-    LeavesAtSecond (put 2 20 21 (n 1000000000)) × LeavesAtSecond (put 2 20 21 (Number (negsuc 0))) × LeavesAtSecond (print 2 (Binary Add (Binary Add (n 1) (n 2)) (n 3)))
-    × LeavesAtSecond (print 2 (Binary Sub (n 2) (n 1))) × LeavesAtSecond (print 2 Yes) × LeavesAtSecond (Eval 2 (Call (named 5) (arg (n 1) (arg (n 2) no_args)))) × LeavesAtSecond (Pass 2)
+    LeavesAtSecond (put 2 20 21 (n 1000000000)) × LeavesAtSecond (put 2 20 21 (Number (negsuc 0)))
+    × LeavesAtSecond (print 2 (Binary Add (Binary Add (n 1) (n 2)) (n 3)))
+    × LeavesAtSecond (print 2 (Binary Sub (n 2) (n 1))) × LeavesAtSecond (print 2 Yes)
+    × LeavesAtSecond (Eval 2 (Call (name_of_id 5) (arg (n 1) (arg (n 2) no_args)))) × LeavesAtSecond (Pass 2)
 
 -- a `def` leaves the form wherever it stands, and the lesser line counts
 abbrev pub DefsShow : Type 0

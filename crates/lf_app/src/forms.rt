@@ -3,7 +3,7 @@
 ghost use Rattle.std.specs.Prelude.{◌≡◌, ◌<◌, ◌^◌, IfSome, map, option_map};
 ghost use Rattle.std.specs.Option.{option_copied};
 ghost use Rattle.lf_app.specs.FirstForm as spec;
-ghost use Rattle.lf_app.specs.Fields.{value_at};
+ghost use Rattle.lf_app.specs.Fields.{field_value};
 ghost use Rattle.lf_parser.specs.Plain.{args_of, plain_expr, plain_stmt};
 
 use lf_base::{Op, TextId};
@@ -17,8 +17,8 @@ const MOST_NUMBER: u64 = 999_999_999;
 pub type Fields = HashMap<TextId, u64>;
 
 // A number that is small enough.
-fn small(number: i64) -> Option<u64>
-    ensures value { result ≡ spec.small number }
+fn small_value(number: i64) -> Option<u64>
+    ensures value { result ≡ spec.small_value number }
     ensures bound { IfSome result (λ n. n < 2 ^ 63) }
 {
     let Ok(number) = u64::try_from(number) else {
@@ -31,28 +31,28 @@ fn small(number: i64) -> Option<u64>
 }
 
 // The value of a small number.
-fn number(expr: &Expr) -> Option<u64>
-    ensures value { result ≡ spec.number (plain_expr expr.now) }
+fn small_number(expr: &Expr) -> Option<u64>
+    ensures value { result ≡ spec.small_number (plain_expr expr.now) }
     ensures bound { IfSome result (λ n. n < 2 ^ 63) }
 {
     match expr {
-        Expr::Number(number) => small(*number),
+        Expr::Number(number) => small_value(*number),
         _ => None,
     }
 }
 
 // The value of a sum of two small numbers.
-fn sum(left: &Expr, right: &Expr) -> Option<u64>
-    ensures { result ≡ spec.sum (plain_expr left.now) (plain_expr right.now) }
+fn sum_of_two(left: &Expr, right: &Expr) -> Option<u64>
+    ensures { result ≡ spec.sum_of_two (plain_expr left.now) (plain_expr right.now) }
 {
-    let left = number(left)?;
-    let right = number(right)?;
+    let left = small_number(left)?;
+    let right = small_number(right)?;
     Some(left + right)
 }
 
 // The variable that an expression is.
-fn variable(expr: &Expr) -> Option<TextId>
-    ensures { result ≡ spec.variable (plain_expr expr.now) }
+fn variable_named(expr: &Expr) -> Option<TextId>
+    ensures { result ≡ spec.variable_named (plain_expr expr.now) }
 {
     match expr {
         Expr::Var(name) => Some(name.id),
@@ -61,8 +61,8 @@ fn variable(expr: &Expr) -> Option<TextId>
 }
 
 // The text that an expression is.
-fn text(expr: &Expr) -> Option<TextId>
-    ensures { result ≡ spec.text (plain_expr expr.now) }
+fn text_key(expr: &Expr) -> Option<TextId>
+    ensures { result ≡ spec.text_key (plain_expr expr.now) }
 {
     match expr {
         Expr::Text(id) => Some(*id),
@@ -74,39 +74,39 @@ fn text(expr: &Expr) -> Option<TextId>
 fn field_named(object: TextId, target: &Expr, key: &Expr) -> Option<TextId>
     ensures { result ≡ spec.field_named object (plain_expr target.now) (plain_expr key.now) }
 {
-    if variable(target)? != object {
+    if variable_named(target)? != object {
         return None;
     }
-    text(key)
+    text_key(key)
 }
 
 // The value of `O.F`.
-fn field(object: TextId, fields: &Fields, target: &Expr, key: &Expr) -> Option<u64>
-    ensures { result ≡ spec.field object (value_at fields.now) (plain_expr target.now) (plain_expr key.now) }
+fn field_read(object: TextId, fields: &Fields, target: &Expr, key: &Expr) -> Option<u64>
+    ensures { result ≡ spec.field_read object (field_value fields.now) (plain_expr target.now) (plain_expr key.now) }
 {
     let field = field_named(object, target, key)?;
     fields.get(&field).copied()
 }
 
 // The value of an expression.
-fn value(object: TextId, fields: &Fields, expr: &Expr) -> Option<u64>
-    ensures { result ≡ spec.value object (value_at fields.now) (plain_expr expr.now) }
+fn expr_value(object: TextId, fields: &Fields, expr: &Expr) -> Option<u64>
+    ensures { result ≡ spec.expr_value object (field_value fields.now) (plain_expr expr.now) }
 {
     match expr {
-        Expr::Number(number) => small(*number),
+        Expr::Number(number) => small_value(*number),
         Expr::Binary {
             op: Op::Add,
             left,
             right,
-        } => sum(left.get(), right.get()),
-        Expr::Field { target, key } => field(object, fields, target.get(), key.get()),
+        } => sum_of_two(left.get(), right.get()),
+        Expr::Field { target, key } => field_read(object, fields, target.get(), key.get()),
         _ => None,
     }
 }
 
 /// The line of a statement.
-pub fn line_of(stmt: &Stmt) -> u32
-    ensures { result ≡ spec.line_of (plain_stmt stmt.now) }
+pub fn stmt_line(stmt: &Stmt) -> u32
+    ensures { result ≡ spec.stmt_line (plain_stmt stmt.now) }
 {
     match stmt {
         Stmt::Assign { line, .. }
@@ -137,7 +137,7 @@ pub fn made_object(stmt: &Stmt) -> Option<TextId>
 
 /// The field that `O.F = E` writes, and its value.
 pub fn stored_field(object: TextId, fields: &Fields, stmt: &Stmt) -> Option<(TextId, u64)>
-    ensures { result ≡ spec.stored_field object (value_at fields.now) (plain_stmt stmt.now) }
+    ensures { result ≡ spec.stored_field object (field_value fields.now) (plain_stmt stmt.now) }
 {
     let Stmt::Store {
         target,
@@ -149,14 +149,14 @@ pub fn stored_field(object: TextId, fields: &Fields, stmt: &Stmt) -> Option<(Tex
         return None;
     };
     let field = field_named(object, target, key)?;
-    let value = value(object, fields, written)?;
+    let value = expr_value(object, fields, written)?;
     Some((field, value))
 }
 
 // An argument that is alone.
-#[tactic(auto, using(crate::proofs::Arguments::no_args_alone, crate::proofs::Arguments::more_args_alone))]
-fn only(args: &[Expr]) -> Option<&Expr>
-    ensures { option_map plain_expr (option_copied result) ≡ spec.only (args_of (map plain_expr args.now)) }
+#[tactic(auto, using(crate::proofs::LoneArguments::no_args_alone, crate::proofs::LoneArguments::more_args_alone))]
+fn lone_argument(args: &[Expr]) -> Option<&Expr>
+    ensures { option_map plain_expr (option_copied result) ≡ spec.lone_argument (args_of (map plain_expr args.now)) }
 {
     match args {
         [] => None,
@@ -166,8 +166,8 @@ fn only(args: &[Expr]) -> Option<&Expr>
 }
 
 // The one argument of a call of `print`.
-fn printed(expr: &Expr) -> Option<&Expr>
-    ensures { option_map plain_expr (option_copied result) ≡ spec.printed (plain_expr expr.now) }
+fn printed_argument(expr: &Expr) -> Option<&Expr>
+    ensures { option_map plain_expr (option_copied result) ≡ spec.printed_argument (plain_expr expr.now) }
 {
     let Expr::Call { name, args } = expr else {
         return None;
@@ -175,15 +175,15 @@ fn printed(expr: &Expr) -> Option<&Expr>
     if name.id != TextId::PRINT {
         return None;
     }
-    only(args.as_slice())
+    lone_argument(args.as_slice())
 }
 
 /// The value that `print(E)` prints.
 pub fn printed_value(object: TextId, fields: &Fields, stmt: &Stmt) -> Option<u64>
-    ensures { result ≡ spec.printed_value object (value_at fields.now) (plain_stmt stmt.now) }
+    ensures { result ≡ spec.printed_value object (field_value fields.now) (plain_stmt stmt.now) }
 {
     let Stmt::Eval { value: called, .. } = stmt else {
         return None;
     };
-    value(object, fields, printed(called)?)
+    expr_value(object, fields, printed_argument(called)?)
 }

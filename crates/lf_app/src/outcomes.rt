@@ -2,7 +2,7 @@ ghost use Rattle.std.specs.Prelude.{◌≡◌, ℕ, List, IfOk, string_bytes};
 ghost use Rattle.lf_app.specs.Verdicts.{Runs, Checked, Refuses};
 ghost use Rattle.lf_app.specs.Output.{refusal_line as line_of_refusal};
 ghost use Rattle.lf_app.specs.Outcomes.{IsOutcomeOf};
-ghost use Rattle.lf_app.specs.Standing.{text_so_far};
+ghost use Rattle.lf_app.specs.WalkFollows.{text_so_far};
 
 use crate::statuses::Status;
 use lf_base::{Order, OutOfMemory, Place, Refusal};

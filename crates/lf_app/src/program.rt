@@ -1,6 +1,6 @@
 ghost use Rattle.std.specs.Prelude.{◌≡◌, ◌<◌, ◌-◌, ◌^◌, []};
-ghost use Rattle.lf_outside.specs.Streams.{stream};
-ghost use Rattle.lf_app.specs.Answers.{Answers, IsComplete, call};
+ghost use Rattle.lf_outside.specs.Streams.{stream_of};
+ghost use Rattle.lf_app.specs.Answers.{Answers, IsComplete, call_of};
 ghost use Rattle.lf_app.specs.Outcomes.{WritesOutcome};
 
 use crate::commands::Command;
@@ -29,7 +29,7 @@ fn ended(alloc: Global, status: Status) -> Report
 
 // Writes the text of an outcome.
 fn write_outcome<K: Sink>(out: &mut K, outcome: Outcome) -> Report
-    ensures { WritesOutcome (stream (K.held out.old) (K.faults out.old)) (stream (K.held out.new) (K.faults out.new)) outcome result }
+    ensures { WritesOutcome (stream_of K.held K.faults out.old) (stream_of K.held K.faults out.new) outcome result }
 {
     let status = match write_all(out, outcome.text.as_bytes()) {
         Ok(()) => outcome.status,
@@ -45,7 +45,8 @@ fn write_outcome<K: Sink>(out: &mut K, outcome: Outcome) -> Report
 /// the source, runs or checks it, and writes what comes of it to the sink.
 ///
 /// `Answers` says what each status means of the source, the sink and the journal; `IsComplete`
-/// that the status is the due one, or want of memory, where neither of them failed.
+/// that the status is the due one, or want of memory, where neither of them failed. No clause
+/// says when memory is wanting; the sink is then as before.
 pub fn tool<R, H, S: Source, K: Sink, G: Gate>(
     _rt: &R,
     alloc: Global,
@@ -56,10 +57,8 @@ pub fn tool<R, H, S: Source, K: Sink, G: Gate>(
 ) -> Report
     requires source { S.faults script.old < 2 ^ 64 - 1 }
     requires sink { K.faults out.old < 2 ^ 64 - 1 }
-    ensures answers { Answers (call words.now (stream (S.left script.old) (S.faults script.old)) (stream (S.left script.new) (S.faults script.new))
-        (stream (K.held out.old) (K.faults out.old)) (stream (K.held out.new) (K.faults out.new))) result }
-    ensures complete { IsComplete (call words.now (stream (S.left script.old) (S.faults script.old)) (stream (S.left script.new) (S.faults script.new))
-        (stream (K.held out.old) (K.faults out.old)) (stream (K.held out.new) (K.faults out.new))) result }
+    ensures answers { Answers (call_of S.left S.faults K.held K.faults words.now script.old script.new out.old out.new) result }
+    ensures complete { IsComplete (call_of S.left S.faults K.held K.faults words.now script.old script.new out.old out.new) result }
 {
     let Some(command) = Command::from_words(words) else {
         return ended(alloc, Status::WordsRefused);
@@ -87,10 +86,8 @@ pub fn top<R, H, S: Source, K: Sink, G: Gate>(
 ) -> Report
     requires source { S.faults script.old < 2 ^ 64 - 1 }
     requires sink { K.faults out.old < 2 ^ 64 - 1 }
-    ensures answers { Answers (call words.now (stream (S.left script.old) (S.faults script.old)) (stream (S.left script.new) (S.faults script.new))
-        (stream (K.held out.old) (K.faults out.old)) (stream (K.held out.new) (K.faults out.new))) result }
-    ensures complete { IsComplete (call words.now (stream (S.left script.old) (S.faults script.old)) (stream (S.left script.new) (S.faults script.new))
-        (stream (K.held out.old) (K.faults out.old)) (stream (K.held out.new) (K.faults out.new))) result }
+    ensures answers { Answers (call_of S.left S.faults K.held K.faults words.now script.old script.new out.old out.new) result }
+    ensures complete { IsComplete (call_of S.left S.faults K.held K.faults words.now script.old script.new out.old out.new) result }
 {
     tool::<R, H, S, K, G>(rt, alloc, words, script, out, gate)
 }

@@ -4,11 +4,11 @@ ghost use Rattle.std.specs.Prelude.{◌≡◌, ◌≤◌, Option, ℕ, IfOk, len
 ghost use Rattle.lf_app.specs.FirstForm as spec;
 ghost use Rattle.lf_app.specs.Verdicts.{run_verdict, tree_verdict, not_built as refusal_at};
 ghost use Rattle.lf_app.specs.Outcomes.{IsOutcome, IsOutcomeOf};
-ghost use Rattle.lf_app.specs.Standing.{StandsAt, EndsAt};
+ghost use Rattle.lf_app.specs.WalkFollows.{StandsAt, EndsAt};
 ghost use Rattle.lf_parser.specs.Plain.{plain_block, plain_function, plain_tree};
 
 use crate::commands::Command;
-use crate::forms::line_of;
+use crate::forms::stmt_line;
 use crate::outcomes::{Outcome, checked_outcome, refused_outcome, run_outcome};
 use crate::walk::Walk;
 use lf_base::{MOST_SCRIPT_BYTES, OutOfMemory, Place, ReadFail, Refusal, RefusalKind};
@@ -18,20 +18,20 @@ use std::alloc::Global;
 
 // Walks over the statements of main, and answers the line of the first one that isn't of its form.
 fn walk_main(walk: &mut Walk, stmts: &[Stmt]) -> Result<Option<u32>, OutOfMemory>
-    requires { StandsAt walk.old spec.start }
-    ensures { IfOk result (EndsAt (spec.course_from (plain_block stmts.now) spec.start) walk.new) }
+    requires { StandsAt walk.old spec.walk_start }
+    ensures { IfOk result (EndsAt (spec.course_from (plain_block stmts.now) spec.walk_start) walk.new) }
 {
     for stmt in stmts {
         if !walk.statement(stmt)? {
-            return Ok(Some(line_of(stmt)));
+            return Ok(Some(stmt_line(stmt)));
         }
     }
     Ok(None)
 }
 
 // The lesser of two lines, where there are two.
-fn earlier(one: Option<u32>, other: Option<u32>) -> Option<u32>
-    ensures { result ≡ spec.earlier one other }
+fn lesser_line(one: Option<u32>, other: Option<u32>) -> Option<u32>
+    ensures { result ≡ spec.lesser_line one other }
 {
     match (one, other) {
         (Some(one), Some(other)) => Some(one.min(other)),
@@ -46,7 +46,7 @@ fn first_def(functions: &[Function]) -> Option<u32>
 {
     let mut least = None;
     for function in functions {
-        least = earlier(least, Some(function.name.place.line));
+        least = lesser_line(least, Some(function.name.place.line));
     }
     least
 }
@@ -67,7 +67,7 @@ fn run_tree(alloc: Global, tree: &Tree) -> Result<Outcome, OutOfMemory>
 {
     let mut walk = Walk::new(alloc)?;
     let left_at = walk_main(&mut walk, tree.main.as_slice())?;
-    match earlier(first_def(tree.functions.as_slice()), left_at) {
+    match lesser_line(first_def(tree.functions.as_slice()), left_at) {
         Some(line) => refused_outcome(alloc, not_built(line)),
         None => run_outcome(alloc, walk.text),
     }

@@ -18,7 +18,7 @@ pub enum Status {
     ReadFault,
     /// A write to the sink failed.
     WriteFault,
-    /// Memory ran out.
+    /// There was no memory. No clause says when that comes.
     OutOfMemory,
     /// The script is longer than a script may be.
     ScriptTooLong,

@@ -28,13 +28,13 @@ pub struct Walk {
 }
 
 impl Walk {
-    ghost use Rattle.lf_app.specs.FirstForm.{State, start, after_stmt};
-    ghost use Rattle.lf_app.specs.Standing.{StandsAt, Follows};
+    ghost use Rattle.lf_app.specs.FirstForm.{WalkState, walk_start, after_stmt};
+    ghost use Rattle.lf_app.specs.WalkFollows.{StandsAt, FollowsStmt};
     ghost use Rattle.lf_parser.specs.Plain.{plain_stmt};
 
     /// A walk before the first statement.
     pub fn new(alloc: Global) -> Result<Walk, OutOfMemory>
-        ensures { IfOk result (λ walk. StandsAt walk start) }
+        ensures { IfOk result (λ walk. StandsAt walk walk_start) }
     {
         let mut text = String::new(alloc);
         text.push_str("[0]\n")?;
@@ -47,7 +47,8 @@ impl Walk {
 
     /// Goes over a statement, and answers whether it is of a form that may stand there.
     pub fn statement(&mut self, stmt: &Stmt) -> Result<bool, OutOfMemory>
-        ensures { IfOk result (λ good. (state : State) → StandsAt self.old state → Follows self.new (after_stmt state (plain_stmt stmt.now)) good) }
+        ensures { IfOk result (λ good. (state : WalkState) → StandsAt self.old state →
+            FollowsStmt self.new (after_stmt state (plain_stmt stmt.now)) good) }
     {
         let Some(object) = self.object else {
             self.object = made_object(stmt);

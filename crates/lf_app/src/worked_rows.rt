@@ -1,7 +1,8 @@
 //! Short trees on which the definitions of the first form are tried. Each function has an empty
 //! body; its clause is the row.
 
-ghost use Rattle.lf_app.specs.WorkedRows.{DefsShow, EmptyShows, FirstSumShows, PrintIsNoWordShows, RewrittenFieldShows, WrongNamesShow, WrongValuesShow};
+ghost use Rattle.lf_app.specs.WorkedRows.{DefsShow, EmptyShows, FirstSumShows, PrintIsNoWordShows, RewrittenFieldShows, WrongNamesShow};
+ghost use Rattle.lf_app.specs.WorkedRows.{WrongValuesShow};
 
 /// A script may have no statement.
 pub fn empty()

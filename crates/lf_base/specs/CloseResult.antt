@@ -32,7 +32,10 @@ closed_fields s r row = cond (is_local row.owner) (record row { fields = map (λ
 
 -- every slot but the one at the place, and every field of a local row, is closed against region r
 abbrev pub close_result : State → ℕ → ObjId → State
-close_result s at r = record s { slots = put_slot (map (closed_slot s r) s.slots) at (slot_at s.slots at); rows = map (closed_fields s r) s.rows }
+close_result s at r = record s {
+  slots = put_slot (map (closed_slot s r) s.slots) at (slot_at s.slots at);
+  rows = map (closed_fields s r) s.rows;
+}
 
 -- by the slot: it must be set, and hold a bridge
 abbrev pub close_refusal_by : State → Option Value → Option Fault

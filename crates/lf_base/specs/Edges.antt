@@ -49,4 +49,5 @@ content_edges cs = flat_map (λ c. edges_by (Content c.0) (targets_of_value c.1)
 
 -- the edges of a state: one for each set slot, each field and each content whose value is an object
 abbrev pub edges : State → List Edge
-edges s = slot_edges s.slots ++ (rows_edges s.rows ++ (content_edges s.held ++ (content_edges s.made ++ (rows_edges s.given ++ rows_edges s.own))))
+edges s = slot_edges s.slots ++ (rows_edges s.rows
+    ++ (content_edges s.held ++ (content_edges s.made ++ (rows_edges s.given ++ rows_edges s.own))))

@@ -1,7 +1,10 @@
 -- The numbers and the names of the faults.
 use Rattle.std.specs.Prelude.{ℕ, List, codes}
 use Rattle.lf_base.specs.declared.faults.Fault.{Fault}
-use Rattle.lf_base.specs.declared.faults.Fault.TheVariants.{Unset, NotObject, NoField, FrozenWrite, Interior, SecondOwner, Cycle, LocalInCown, NotAcquired, NotCown, NotShareable, NotBridge, Owned, Open, Kind, Overflow, ZeroDivisor, TooDeep, TooManyObjects, OutputFull, OutOfTicks, TooManySpawns}
+use Rattle.lf_base.specs.declared.faults.Fault.TheVariants.{Unset, NotObject, NoField, FrozenWrite, Interior, SecondOwner, Cycle}
+use Rattle.lf_base.specs.declared.faults.Fault.TheVariants.{LocalInCown, NotAcquired, NotCown, NotShareable, NotBridge, Owned, Open, Kind}
+use Rattle.lf_base.specs.declared.faults.Fault.TheVariants.{Overflow, ZeroDivisor, TooDeep, TooManyObjects, OutputFull, OutOfTicks}
+use Rattle.lf_base.specs.declared.faults.Fault.TheVariants.{TooManySpawns}
 
 -- a fault's number
 abbrev pub fault_number : Fault → ℕ

@@ -14,7 +14,8 @@ use Rattle.lf_base.specs.Sets.{Member, least}
 abbrev pub brings_in : Row → Row → Bool
 brings_in x y = has_name (field_targets x.fields) y.name || (is_in x.name (Some (x.owner)) && is_in x.name (Some (y.owner)))
 
--- the rows that become frozen: the least set with the row that v names, with what each row points to, and with the whole region of each bridge
+-- the rows that become frozen: the least set with the row that v names, with what each row points to, and with the
+-- whole region of each bridge
 abbrev pub freeze_set : State → Value → List Row
 freeze_set s v = least (λ found row. has_name (targets_of_value v) row.name || list_any (λ x. brings_in x row) found) s.rows
 

@@ -22,7 +22,8 @@ points_into rows s r = list_any (λ e. is_borrower s.rows e.from && is_in r (own
 
 -- bridge r has an owning edge from one of the rows or from a cown
 abbrev pub is_owned_by : List Row → State → ObjId → Bool
-is_owned_by rows s r = list_any (λ e. is_owning s.rows e.from r && same_name e.to r) (rows_edges rows ++ (content_edges s.held ++ content_edges s.made))
+is_owned_by rows s r = list_any (λ e. is_owning s.rows e.from r && same_name e.to r) (rows_edges rows
+    ++ (content_edges s.held ++ content_edges s.made))
 
 -- what the rows must give for a row of that name and owner to be one of them:
 -- to a local row an edge from a slot or from one of them;

@@ -1,11 +1,11 @@
 pub mod formers
+pub mod Sets
 pub mod RefusalKinds
 pub mod Lines
 pub mod Texts
 pub mod FaultTable
 pub mod Names
 pub mod PlainState
-pub mod Sets
 pub mod Owners
 pub mod Edges
 pub mod Ownership
@@ -28,6 +28,4 @@ pub mod Accesses
 pub mod Questions
 pub mod Suspects
 pub mod Settling
-pub mod Scripts
-pub mod WorkedRows
 pub mod Links

@@ -19,9 +19,9 @@ module _ {N : Type 0} where
   last_or before (x ∷ xs) = last_or (Some x) xs
 
   -- the links of xs lead from one to the next and back, between `before` and `after`
-  abbrev pub Spells : (N → Option (Link N)) → Option N → List N → Option N → Type 0
-  Spells get before [] after = Unit {0}
-  Spells get before (x ∷ xs) after = (get x ≡ Some (link before (head_or xs after))) × Spells get (Some x) xs after
+  abbrev pub LinksSpell : (N → Option (Link N)) → Option N → List N → Option N → Type 0
+  LinksSpell get before [] after = Unit {0}
+  LinksSpell get before (x ∷ xs) after = (get x ≡ Some (link before (head_or xs after))) × LinksSpell get (Some x) xs after
 
   -- the node after the one of that link
   abbrev pub next_of : Option (Link N) → Option N
@@ -54,9 +54,9 @@ module _ {N : Type 0} where
     Lacks x (y ∷ ys) = (same x y ≡ false) × Lacks x ys
 
     -- no node comes twice
-    abbrev pub Differ : List N → Type 0
-    Differ [] = Unit {0}
-    Differ (x ∷ xs) = Lacks x xs × Differ xs
+    abbrev pub NodesDiffer : List N → Type 0
+    NodesDiffer [] = Unit {0}
+    NodesDiffer (x ∷ xs) = Lacks x xs × NodesDiffer xs
 
     -- the links after f is done to that of the node `at`, if there is one
     abbrev pub relinked : (N → Option (Link N)) → Option N → (Link N → Link N) → N → Option (Link N)
@@ -89,8 +89,8 @@ module _ {N : Type 0} where
     -- xs is the whole list of a table of links: the links spell it, none of it comes twice, it begins and ends
     -- with these nodes, and its nodes are the members
     pub record IsList (get : N → Option (Link N)) (front back : Option N) (member : N → Bool) (xs : List N) : Type 0 where
-      pub links : Spells get None xs None
-      pub differ : Differ xs
+      pub links : LinksSpell get None xs None
+      pub differ : NodesDiffer xs
       pub first : front ≡ head_or xs None
       pub last : back ≡ last_or None xs
       pub members : (q : N) → has q xs ≡ member q

@@ -11,7 +11,8 @@ use Rattle.lf_base.specs.Sets.{Member, least}
 
 -- the rows at the end of a path of local rows from v, the row of v itself among them
 abbrev pub move_set : State → Value → List Row
-move_set s v = least (λ found row. is_local row.owner && (has_name (targets_of_value v) row.name || list_any (λ x. has_name (field_targets x.fields) row.name) found)) s.rows
+move_set s v = least (λ found row. is_local row.owner
+    && (has_name (targets_of_value v) row.name || list_any (λ x. has_name (field_targets x.fields) row.name) found)) s.rows
 
 -- such a path, by its last row: it begins at a local row that v names, and goes on to a local row that a field of the row before names
 pub data LocalPath (s : State) (v : Value) : Row → Type 0 where

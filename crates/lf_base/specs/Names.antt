@@ -1,5 +1,6 @@
 -- Names, keys and owners, compared; and what a value refers to.
 use Rattle.std.specs.Prelude.{Bool, true, false, ◌&&◌, ◌||◌, eqb, ltb, List, [], ◌∷◌, Option, Some, None}
+use Rattle.std.specs.Bool.{beq}
 use Rattle.std.specs.Ordering.{int_eq}
 use Rattle.lf_base.specs.declared.ids.ObjId.{ObjId}
 use Rattle.lf_base.specs.declared.ids.CownId.{CownId}
@@ -29,6 +30,16 @@ same_key (Text a) (Text b) = eqb a.index b.index
 same_key (Text a) (Int y) = false
 same_key (Int x) (Text b) = false
 same_key (Int x) (Int y) = int_eq x y
+
+-- two values are one
+abbrev pub same_value : Value → Value → Bool
+same_value value.None value.None = true
+same_value (value.Bool a) (value.Bool b) = beq a b
+same_value (value.Int x) (value.Int y) = int_eq x y
+same_value (value.Text a) (value.Text b) = eqb a.index b.index
+same_value (Obj a) (Obj b) = same_name a b
+same_value (Cown a) (Cown b) = same_cown a b
+same_value _ _ = false
 
 -- two owners are one
 abbrev pub same_owner : Owner → Owner → Bool

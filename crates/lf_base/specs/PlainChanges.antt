@@ -9,7 +9,17 @@ use Rattle.lf_base.specs.PlainState.{Row, State}
 
 -- the state of a behaviour that begins with frozen rows alone
 abbrev pub first_state : ℕ → List Row → State
-first_state birth given = record { birth = birth; objects = 0; cowns = 0; rows = []; slots = []; held = []; made = []; given = given; own = [] }
+first_state birth given = record {
+  birth = birth;
+  objects = 0;
+  cowns = 0;
+  rows = [];
+  slots = [];
+  held = [];
+  made = [];
+  given = given;
+  own = [];
+}
 
 -- the slot at a place, counted from 0
 abbrev pub slot_at : List (Option Value) → ℕ → Option Value

@@ -1,7 +1,9 @@
 -- The names of the kinds of refusal.
 use Rattle.std.specs.Prelude.{ℕ, List, codes}
 use Rattle.lf_base.specs.declared.refusals.RefusalKind.{RefusalKind}
-use Rattle.lf_base.specs.declared.refusals.RefusalKind.TheVariants.{BadByte, BadIndent, OpenText, WideNumber, TooDeepIndent, Unexpected, TooDeepExpr, TooManyParts, UnknownName, UnknownFunction, WrongArity, DuplicateFunction, DuplicateName, NotVariable, NotBuilt}
+use Rattle.lf_base.specs.declared.refusals.RefusalKind.TheVariants.{BadByte, BadIndent, OpenText, WideNumber, TooDeepIndent, Unexpected}
+use Rattle.lf_base.specs.declared.refusals.RefusalKind.TheVariants.{TooDeepExpr, TooManyParts, UnknownName, UnknownFunction, WrongArity}
+use Rattle.lf_base.specs.declared.refusals.RefusalKind.TheVariants.{DuplicateFunction, DuplicateName, NotVariable, NotBuilt}
 
 -- a kind's name, in bytes
 abbrev pub kind_name : RefusalKind → List ℕ

@@ -19,11 +19,13 @@ Watches s r (Object o) = owner_in s.rows o ≡ Some (In r)
 abbrev pub WatchedBy : State → List Suspect → ObjId → Type 0
 WatchedBy s w r = (u : Suspect) × (Member u w × Watches s r u)
 
--- whatever nothing justifies is a suspect: a local row without an edge, a region without owner and borrow (by itself or by a row of it), an inner row without an edge whose bridge stays
+-- whatever nothing justifies is a suspect: a local row without an edge, a region without owner and borrow (by itself or
+-- by a row of it), an inner row without an edge whose bridge stays
 pub record Watched (s : State) (w : List Suspect) : Type 0 where
   pub locals : (o : ObjId) → owner_in s.rows o ≡ Some Local → points s.rows s o ≡ false → Member (Object o) w
   pub regions : (r : ObjId) → owner_in s.rows r ≡ Some (In r) → Bare s r → WatchedBy s w r
-  pub inners : (o r : ObjId) → owner_in s.rows o ≡ Some (In r) → same_name r o ≡ false → has_row (kept_rows s) r ≡ true → points s.rows s o ≡ false → Member (Object o) w
+  pub inners : (o r : ObjId) → owner_in s.rows o ≡ Some (In r) → same_name r o ≡ false → has_row (kept_rows s) r ≡ true
+      → points s.rows s o ≡ false → Member (Object o) w
 
 -- the state without some of its rows
 abbrev pub without : State → (ObjId → Bool) → State
@@ -45,17 +47,22 @@ Spent gone (Region r) = gone r ≡ true
 
 -- whatever loses its last justification by the drop is a new suspect
 pub record Renewed (s : State) (gone : ObjId → Bool) (new : List Suspect) : Type 0 where
-  pub locals : (o : ObjId) → owner_in (without s gone).rows o ≡ Some Local → points s.rows s o ≡ true → points (without s gone).rows (without s gone) o ≡ false → Member (Object o) new
-  pub regions : (r : ObjId) → owner_in (without s gone).rows r ≡ Some (In r) → (Bare s r → ⊥) → Bare (without s gone) r → WatchedBy (without s gone) new r
-  pub inners : (o r : ObjId) → owner_in (without s gone).rows o ≡ Some (In r) → same_name r o ≡ false → points s.rows s o ≡ true → points (without s gone).rows (without s gone) o ≡ false → Member (Object o) new
+  pub locals : (o : ObjId) → owner_in (without s gone).rows o ≡ Some Local → points s.rows s o ≡ true
+      → points (without s gone).rows (without s gone) o ≡ false → Member (Object o) new
+  pub regions : (r : ObjId) → owner_in (without s gone).rows r ≡ Some (In r) → (Bare s r → ⊥) → Bare (without s gone) r
+      → WatchedBy (without s gone) new r
+  pub inners : (o r : ObjId) → owner_in (without s gone).rows o ≡ Some (In r) → same_name r o ≡ false → points s.rows s o ≡ true
+      → points (without s gone).rows (without s gone) o ≡ false → Member (Object o) new
 
 -- the suspect has a justification, or has no row
 abbrev pub Idle : State → Suspect → Type 0
-Idle s (Object o) = (owner_in s.rows o ≡ Some Local → points s.rows s o ≡ true) × ((r : ObjId) → owner_in s.rows o ≡ Some (In r) → (Bare s r → ⊥) × (same_name r o ≡ false → points s.rows s o ≡ true))
+Idle s (Object o) = (owner_in s.rows o ≡ Some Local → points s.rows s o ≡ true)
+    × ((r : ObjId) → owner_in s.rows o ≡ Some (In r) → (Bare s r → ⊥) × (same_name r o ≡ false → points s.rows s o ≡ true))
 Idle s (Region r) = owner_in s.rows r ≡ Some (In r) → Bare s r → ⊥
 
 -- a run over the suspects: one that has a justification is forgotten, and for another one a set of rows is dropped
 pub data Run : State → List Suspect → State → Type 0 where
   finish : {s : State} → Run s [] s
   forget : {s t : State} {u : Suspect} {w : List Suspect} → Idle s u → Run s w t → Run s (u ∷ w) t
-  drop : {s t : State} {u : Suspect} {w : List Suspect} (gone : ObjId → Bool) (new : List Suspect) → CanGo s gone → Spent gone u → Renewed s gone new → Run (without s gone) (new ++ w) t → Run s (u ∷ w) t
+  drop : {s t : State} {u : Suspect} {w : List Suspect} (gone : ObjId → Bool) (new : List Suspect) → CanGo s gone → Spent gone u
+      → Renewed s gone new → Run (without s gone) (new ++ w) t → Run s (u ∷ w) t

@@ -26,9 +26,13 @@ abbrev pub drop_field : List (Key × Value) → Key → List (Key × Value)
 drop_field [] k = []
 drop_field (f ∷ fs) k = cond (same_key f.0 k) fs (f ∷ drop_field fs k)
 
+-- the rows with field k of x taken out
+abbrev pub take_fields : List Row → ObjId → Key → List Row
+take_fields rows x k = map (λ r. cond (is_at x r) (record r { fields = drop_field r.fields k }) r) rows
+
 -- the field k of x is taken out
 abbrev pub take_result : State → ObjId → Key → State
-take_result s x k = record s { rows = map (λ r. cond (is_at x r) (record r { fields = drop_field r.fields k }) r) s.rows }
+take_result s x k = record s { rows = take_fields s.rows x k }
 
 -- what the taking of a field is refused for: a target without a mutable row is frozen, and else the field must be there
 abbrev pub take_refusal_by : Option Row → Key → Option Fault

@@ -1,8 +1,9 @@
 -- The texts of a script: a list of byte lists without repeats, which begins with fixed ones.
-use Rattle.std.specs.Prelude.{◌≡◌, ◌<◌, ℕ, Bool, ◌==◌, List, [], ◌∷◌, ◌++◌, length, codes, fold, if◌then◌else◌, slice_get, unwrap_or}
+use Rattle.std.specs.Prelude.{◌≡◌, ℕ, Bool, ◌==◌, List, [], ◌∷◌, ◌++◌, codes, fold, if◌then◌else◌, slice_get, unwrap_or}
 use Rattle.std.specs.List.{list_any, position_or_len}
 use Rattle.std.specs.Str.{bytes_eq}
 use Rattle.lf_base.specs.declared.ids.TextId.{TextId}
+use Rattle.lf_base.specs.Sets.{Differ}
 
 abbrev pub Text : Type 0
 Text = List ℕ
@@ -34,11 +35,11 @@ fixed_texts =
 abbrev pub with_texts : List Text → List Text → List Text
 with_texts texts seen = fold with_text texts seen
 
--- no two places have one text
-abbrev pub Differ : List Text → Type 0
-Differ texts = (i j : ℕ) → i < length texts → j < length texts → text_at texts i ≡ text_at texts j → i ≡ j
+-- no text comes twice
+abbrev pub TextsDiffer : List Text → Type 0
+TextsDiffer texts = Differ bytes_eq texts
 
--- the second list is the first with texts behind it
+-- the second list is the first with texts after it
 pub record Grows (before after : List Text) : Type 0 where
   pub more : List Text
   pub is : after ≡ before ++ more

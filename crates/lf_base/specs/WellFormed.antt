@@ -1,4 +1,5 @@
--- What holds of every state of a behaviour: where edges may lead, one owner at most for each region and none round about, and names that differ and are numbered.
+-- What holds of every state of a behaviour: where edges may lead, one owner at most for each region and none round
+-- about, and names that differ and are numbered.
 use Rattle.std.specs.Prelude.{Bool, List, None, Option, Some, [], false, flat_map, map, true, ℕ, ◌++◌, ◌<◌, ◌||◌, ◌≡◌, ◌≤◌}
 use Rattle.std.specs.Prelude.{option_to_list}
 use Rattle.lf_base.specs.declared.ids.CownId.{CownId}
@@ -70,7 +71,8 @@ content_values cs = map (λ c. c.1) cs
 
 -- those of the whole state
 abbrev pub all_values : State → List Value
-all_values s = slot_values s.slots ++ (field_values s.rows ++ (content_values s.held ++ (content_values s.made ++ (field_values s.given ++ field_values s.own))))
+all_values s = slot_values s.slots ++ (field_values s.rows
+    ++ (content_values s.held ++ (content_values s.made ++ (field_values s.given ++ field_values s.own))))
 
 -- the cowns that the state holds or made
 abbrev pub own_cowns : State → List CownId

@@ -129,7 +129,7 @@ pub enum HeapFail {
     /// The rules refuse the operation.
     #[error("the operation is refused")]
     Fault(Fault),
-    /// Memory ran out.
+    /// Want of memory.
     #[error("out of memory")]
     OutOfMemory,
 }

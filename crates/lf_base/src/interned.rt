@@ -1,5 +1,5 @@
 ghost use Rattle.std.specs.Prelude.{◌≡◌, ◌↔◌, ◌<◌, [], length, map, IfOk, IsTrue, OnOk, OnErr};
-ghost use Rattle.lf_base.specs.Texts.{fixed_texts, with_text, with_texts, place_of, text_at, Differ};
+ghost use Rattle.lf_base.specs.Texts.{fixed_texts, with_text, with_texts, place_of, text_at, TextsDiffer};
 
 use crate::ids::TextId;
 use crate::memory::OutOfMemory;
@@ -41,18 +41,17 @@ pub struct Texts {
 
 impl Model for Texts {
     ghost use Rattle.std.specs.Prelude.{List, ℕ, map, ◌≤◌, ◌<◌, ◌^◌, length};
-    ghost use Rattle.lf_base.specs.Texts.{Differ};
+    ghost use Rattle.lf_base.specs.Texts.{TextsDiffer};
 
     ghost Value = { List (List ℕ) };
 
     ghost view = { λ texts. map (λ key. key.items) texts.set.keys };
 
-    ghost invariant = { λ texts. (length texts.set.keys < 2 ^ 32) × Differ (map (λ key. key.items) texts.set.keys) };
+    ghost invariant = { λ texts. (length texts.set.keys < 2 ^ 32) × TextsDiffer (map (λ key. key.items) texts.set.keys) };
 }
 
 impl Texts {
-    /// The fixed texts, which come first in each script. `OutOfMemory` comes only
-    /// where memory runs out.
+    /// The fixed texts, which come first in each script, or want of memory.
     pub fn new(alloc: Global) -> Result<Texts, OutOfMemory>
         ensures { IfOk result (λ texts. texts ≡ fixed_texts) }
     {
@@ -73,9 +72,9 @@ impl Texts {
         Ok(())
     }
 
-    /// The place of a text, which goes last where it is new. `OutOfMemory` comes
-    /// where memory runs out, or where the text would be one too many for a
-    /// `TextId`; all is then as it was.
+    /// The place of a text, which goes last where it is new; or want of memory, which
+    /// also stands for a text that would be one too many for a `TextId`. All is then
+    /// as it was.
     pub fn intern(&mut self, text: &[u8]) -> Result<TextId, OutOfMemory>
         ensures place { IfOk result (λ id. id.index ≡ place_of self.old text.now) }
         ensures within { IfOk result (λ id. id.index < length self.new) }
@@ -114,7 +113,7 @@ impl Texts {
     /// The number of texts. No text is there twice.
     pub fn len(&self) -> usize
         ensures count { result ≡ length self.now }
-        ensures differ { Differ self.now }
+        ensures differ { TextsDiffer self.now }
     {
         self.set.len()
     }
@@ -124,27 +123,5 @@ impl Texts {
         ensures { IsTrue result ↔ (self.now ≡ []) }
     {
         self.set.is_empty()
-    }
-}
-
-#[cfg(test)]
-mod tests {
-    use super::*;
-    use std::test::Fail;
-
-    #[test]
-    fn numbers_texts(rt: HostRuntime) -> Result<(), Fail> {
-        let mut texts = Texts::new(rt.alloc())?;
-        assert_eq!(rt; texts.len(), 17);
-        assert!(rt; !texts.is_empty());
-        assert_eq!(rt; texts.intern(b"print")?, TextId::PRINT);
-        let first = TextId { index: 17 };
-        assert_eq!(rt; texts.intern(b"x")?, first);
-        assert_eq!(rt; texts.intern(b"x")?, first);
-        assert_eq!(rt; texts.len(), 18);
-        assert_eq!(rt; texts.text(TextId { index: 16 }), b"is_closed".as_slice());
-        assert_eq!(rt; texts.text(first), b"x".as_slice());
-        assert_eq!(rt; texts.text(TextId { index: 18 }), b"".as_slice());
-        Ok(())
     }
 }

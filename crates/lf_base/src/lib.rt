@@ -5,15 +5,14 @@
 //! the list of its texts, none of them twice.
 //!
 //! Its specs say what ownership, counts and dropping are, on a plain state without
-//! counts and marks. `laws` has what was proved of them, and `worked_rows` short
-//! scripts on which they were tried.
+//! counts and marks, and its proofs are a small library of lemmas on lists, names and
+//! texts. What was proved of ownership stands in `lf_laws`.
 #![tactic(auto)]
 
 mod behaviours;
 mod faults;
 mod ids;
 mod interned;
-pub mod laws;
 mod limits;
 mod links;
 mod lists;
@@ -23,13 +22,15 @@ mod steps;
 mod stored;
 pub mod text_laws;
 mod values;
-pub mod worked_rows;
 
 pub use behaviours::{Job, Spawn};
 pub use faults::{Fault, FaultAt, HeapFail};
 pub use ids::{CownId, ObjId, TextId};
 pub use interned::Texts;
-pub use limits::MOST_SCRIPT_BYTES;
+pub use limits::{
+    MOST_ELIFS, MOST_EXPRESSION_LEVELS, MOST_FRAMES, MOST_INDENT_LEVELS, MOST_LINE_TOKENS,
+    MOST_MADE, MOST_PARTS, MOST_PRINTED_BYTES, MOST_SCRIPT_BYTES, MOST_SPAWNS,
+};
 pub use links::Link;
 pub use lists::{Cowns, Fields, Held, Line, Lines, Listed, Order, Spawns, Values};
 pub use memory::OutOfMemory;

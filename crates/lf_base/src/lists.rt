@@ -60,8 +60,8 @@ impl<T> Listed<T> {
         }
     }
 
-    /// Adds an item at the end. Where memory runs out the item is handed back,
-    /// and the list is as it was.
+    /// Adds an item at the end. On want of memory the item is handed back, and the
+    /// list is as it was.
     pub fn push(&mut self, item: T) -> Result<(), (T, OutOfMemory)>
         ensures ok { OnOk result (self.new ≡ self.old ++ item ∷ []) }
         ensures unchanged { OnErr result (self.new ≡ self.old) }

@@ -1,7 +1,8 @@
 use std::alloc::{AllocError, AllocFailed};
 
-/// Memory ran out. A call that answers this leaves everything as it was, unless
-/// its own text says otherwise.
+/// Want of memory. No contract says when it comes: a call that has it among its
+/// answers may give it at any time. It then leaves everything as it was, unless its
+/// own text says otherwise.
 #[derive(Clone, Copy, Debug, PartialEq, Eq)]
 pub struct OutOfMemory;
 

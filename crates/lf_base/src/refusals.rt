@@ -84,7 +84,7 @@ pub enum ReadFail {
     /// The script is refused.
     #[error("the script is refused")]
     Refused(Refusal),
-    /// Memory ran out.
+    /// Want of memory.
     #[error("out of memory")]
     OutOfMemory,
 }

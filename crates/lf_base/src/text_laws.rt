@@ -3,14 +3,14 @@
 ghost use Rattle.std.specs.Prelude.{◌≡◌, ◌<◌, ◌++◌, ℕ, List, codes, length, true};
 ghost use Rattle.std.specs.List.{list_any};
 ghost use Rattle.std.specs.Str.{bytes_eq};
-ghost use Rattle.lf_base.specs.Texts.{Text, with_text, place_of, text_at, fixed_texts, Differ};
+ghost use Rattle.lf_base.specs.Texts.{Text, with_text, place_of, text_at, fixed_texts, TextsDiffer};
 
 use crate::ids::TextId;
 
 /// No text is there twice, first and with every further one.
 pub fn texts_differ()
-    ensures first { Differ fixed_texts }
-    ensures with_one { (texts : List Text) (text : Text) → Differ texts → Differ (with_text texts text) }
+    ensures first { TextsDiffer fixed_texts }
+    ensures with_one { (texts : List Text) (text : Text) → TextsDiffer texts → TextsDiffer (with_text texts text) }
 {}
 
 /// A text that was added is at its place, and keeps it when others come behind it.
@@ -22,7 +22,7 @@ pub fn texts_keep_their_places()
 
 /// Where no text is there twice, the text at a place has that place.
 pub fn texts_are_found()
-    ensures { (texts : List Text) (place : ℕ) → Differ texts → place < length texts
+    ensures { (texts : List Text) (place : ℕ) → TextsDiffer texts → place < length texts
         → place_of texts (text_at texts place) ≡ place }
 {}
 

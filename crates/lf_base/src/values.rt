@@ -1,6 +1,6 @@
 ghost use Rattle.std.specs.Prelude.{◌≡◌, ◌↔◌, IsTrue, option_to_list};
 ghost use Rattle.lf_base.specs.PlainChecks.{is_content_key};
-ghost use Rattle.lf_base.specs.Names.{key_of, same_key, same_owner, targets_of_value};
+ghost use Rattle.lf_base.specs.Names.{key_of, same_key, same_owner, same_value, targets_of_value};
 
 use crate::ids::{CownId, ObjId, TextId};
 
@@ -19,7 +19,8 @@ pub enum Value {
 impl Value {
     /// Whether both are one value.
     pub fn is_same(self, other: Value) -> bool
-        ensures { IsTrue result ↔ (self ≡ other) }
+        ensures test { result ≡ same_value self other }
+        ensures one { IsTrue result ↔ (self ≡ other) }
     {
         self == other
     }

@@ -2,15 +2,15 @@
 //! gives all to a region, walks over them and drops them. It writes the number of rows of
 //! each step to standard output, and the time so far to standard error.
 //!
-//! It stands on `lf_graph`, whose calls it makes by `trials`, so that it needs no proof of
-//! its own about rows.
+//! It stands on `lf_trials`, by whose calls it works a store of `lf_graph`, so that it needs
+//! no proof of its own about rows.
 #![tactic(auto)]
 
 ghost use Rattle.std.specs.Prelude.{◌≡◌, ◌<◌};
 
 use lf_base::{Key, ObjId, OutOfMemory, Owner, Steps, Value};
-use lf_graph::trials::{next_of, offer_field, offer_owner, offer_ref, offer_row, withdraw_row};
 use lf_graph::{FlatStore, Store};
+use lf_trials::trials::{next_of, offer_field, offer_owner, offer_ref, offer_row, withdraw_row};
 use std::marker::Brand;
 use std::process::ExitCode;
 use std::rt::{Clock, Env};

@@ -1,14 +1,15 @@
 -- What may be called, and with how many arguments.
 use Rattle.std.specs.Prelude.{ℕ, true, false, List, [], ◌∷◌, length, codes, Option, Some, None, if◌then◌else◌}
 use Rattle.std.specs.Str.{bytes_eq}
+use Rattle.lf_base.specs.declared.limits.TheConstants.{MOST_PARTS}
 use Rattle.lf_base.specs.declared.ids.TextId.{TextId}
 use Rattle.lf_base.specs.Texts.{Text, text_at, same_text}
 use Rattle.lf_parser.specs.Plain.{PlainFunction}
 use Rattle.lf_codegen.specs.declared.callee.Callee.{Callee}
 
 -- a callee that takes from least to most arguments
-abbrev pub takes : ℕ → ℕ → Callee
-takes least most = record { least = least; most = most; asks = false }
+abbrev pub callee_taking : ℕ → ℕ → Callee
+callee_taking least most = record { least = least; most = most; asks = false }
 
 -- a question, of one variable
 abbrev pub question : Callee
@@ -24,12 +25,12 @@ built_in_named name callee = record { name = name; callee = callee }
 -- the built-in calls
 abbrev pub built_ins : List BuiltIn
 built_ins =
-    built_in_named (codes "print") (takes 0 16)
-    ∷ built_in_named (codes "Region") (takes 0 0)
-    ∷ built_in_named (codes "Cown") (takes 1 1)
-    ∷ built_in_named (codes "freeze") (takes 1 1)
-    ∷ built_in_named (codes "merge") (takes 2 2)
-    ∷ built_in_named (codes "dissolve") (takes 1 1)
+    built_in_named (codes "print") (callee_taking 0 MOST_PARTS)
+    ∷ built_in_named (codes "Region") (callee_taking 0 0)
+    ∷ built_in_named (codes "Cown") (callee_taking 1 1)
+    ∷ built_in_named (codes "freeze") (callee_taking 1 1)
+    ∷ built_in_named (codes "merge") (callee_taking 2 2)
+    ∷ built_in_named (codes "dissolve") (callee_taking 1 1)
     ∷ built_in_named (codes "close") question
     ∷ built_in_named (codes "refs") question
     ∷ built_in_named (codes "borrowed") question
@@ -39,12 +40,12 @@ built_ins =
     ∷ []
 
 -- the callee of this name among some built-in calls
-abbrev pub named_in : List BuiltIn → Text → Option Callee
-named_in [] text = None
-named_in (b ∷ bs) text = if bytes_eq text b.name then Some b.callee else named_in bs text
+abbrev pub built_in_among : List BuiltIn → Text → Option Callee
+built_in_among [] text = None
+built_in_among (b ∷ bs) text = if bytes_eq text b.name then Some b.callee else built_in_among bs text
 
 unfoldable pub built_in : Text → Option Callee
-built_in text = named_in built_ins text
+built_in text = built_in_among built_ins text
 
 -- the number of parameters of the first function of a name
 abbrev pub params_of : List PlainFunction → TextId → Option ℕ
@@ -53,7 +54,7 @@ params_of (f ∷ fs) id = if same_text id f.name.id then Some (length f.params) 
 
 abbrev pub exactly : Option ℕ → Option Callee
 exactly None = None
-exactly (Some count) = Some (takes count count)
+exactly (Some count) = Some (callee_taking count count)
 
 -- a built-in call goes before a function
 abbrev pub built_in_or : Option Callee → Option ℕ → Option Callee

@@ -1,4 +1,5 @@
--- What an answer says, where a script or a refusal is known: the answer gives just that, unless memory ran out.
+-- What an answer says, where a script or a refusal is known: the answer gives just that, or want of memory,
+-- of which no clause says when it comes.
 use Rattle.std.specs.Prelude.{◌≡◌, List, Ok, Err}
 use Rattle.std.specs.declared.result.Result.{Result}
 use Rattle.lf_base.specs.declared.refusals.Refusal.{Refusal}
@@ -9,13 +10,13 @@ use Rattle.lf_parser.specs.Plain.{PlainTree, plain_tree}
 use Rattle.lf_codegen.specs.declared.script.Script.{Script}
 
 -- these texts and this tree
-abbrev pub Gives : Result Script ReadFail → List Text → PlainTree → Type 0
-Gives (Ok script) texts tree = (script.texts ≡ texts) × (plain_tree script.resolved ≡ tree)
-Gives (Err (fail.Refused refusal)) texts tree = ⊥
-Gives (Err fail.OutOfMemory) texts tree = Unit {0}
+abbrev pub GivesScript : Result Script ReadFail → List Text → PlainTree → Type 0
+GivesScript (Ok script) texts tree = (script.texts ≡ texts) × (plain_tree script.resolved ≡ tree)
+GivesScript (Err (fail.Refused refusal)) texts tree = ⊥
+GivesScript (Err fail.OutOfMemory) texts tree = Unit {0}
 
 -- this refusal
-abbrev pub Refuses : Result Script ReadFail → Refusal → Type 0
-Refuses (Ok script) refusal = ⊥
-Refuses (Err (fail.Refused answered)) refusal = answered ≡ refusal
-Refuses (Err fail.OutOfMemory) refusal = Unit {0}
+abbrev pub GivesRefusal : Result Script ReadFail → Refusal → Type 0
+GivesRefusal (Ok script) refusal = ⊥
+GivesRefusal (Err (fail.Refused answered)) refusal = answered ≡ refusal
+GivesRefusal (Err fail.OutOfMemory) refusal = Unit {0}

@@ -38,21 +38,21 @@ function_whens f = block_whens f.body
 
 module _ {X : Type 0} (key : X → ℕ) where
   -- an item before the first of these whose key isn't below its own
-  abbrev pub placed : X → List X → List X
-  placed x [] = x ∷ []
-  placed x (y ∷ ys) = if ltb (key y) (key x) then y ∷ placed x ys else x ∷ (y ∷ ys)
+  abbrev pub put_in_order : X → List X → List X
+  put_in_order x [] = x ∷ []
+  put_in_order x (y ∷ ys) = if ltb (key y) (key x) then y ∷ put_in_order x ys else x ∷ (y ∷ ys)
 
   -- the items by rising key, those of one key in their order
   abbrev pub rising : List X → List X
   rising [] = []
-  rising (x ∷ xs) = placed x (rising xs)
+  rising (x ∷ xs) = put_in_order x (rising xs)
 
-abbrev pub line_of : PlainFrame → ℕ
-line_of f = f.line
+abbrev pub frame_line : PlainFrame → ℕ
+frame_line f = f.line
 
 -- the bodies of all `when`s, in the order of their `when` words, each of which begins a line
 abbrev pub when_frames : PlainTree → List PlainFrame
-when_frames tree = rising line_of (flat_map function_whens tree.functions ++ block_whens tree.main)
+when_frames tree = rising frame_line (flat_map function_whens tree.functions ++ block_whens tree.main)
 
 abbrev pub main_frame : PlainTree → PlainFrame
 main_frame tree = record { line = 0; own = []; body = tree.main }
@@ -84,12 +84,12 @@ abbrev pub bound : PlainFrame → List Name
 bound f = f.own ++ flat_map binds (block_mentions f.body)
 
 -- the names with this one, which goes last where it is new
-abbrev pub with_name : List Name → Name → List Name
-with_name names x = if is_among x.id names then names else names ++ x ∷ []
+abbrev pub with_new_name : List Name → Name → List Name
+with_new_name names x = if is_among x.id names then names else names ++ x ∷ []
 
 -- each name once, where it stands first
 abbrev pub distinct : List Name → List Name
-distinct names = fold with_name [] names
+distinct names = fold with_new_name [] names
 
 -- the variables of a frame, in the order of their numbers: its own names, then the others as they are first mentioned
 abbrev pub variables : PlainFrame → List Name

@@ -1,10 +1,10 @@
 pub mod Mentions
-pub mod Parts
 pub mod Frames
 pub mod Callees
 pub mod NameRefusals
-pub mod Reading
+pub mod ScriptReading
 pub mod Exactly
+pub mod Parts
 pub mod Earliest
 pub mod NameSets
-pub mod Standing
+pub mod TablesMean

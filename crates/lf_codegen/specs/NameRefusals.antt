@@ -1,9 +1,11 @@
 -- The refusals of a tree's names and calls, and which of them is the first.
-use Rattle.std.specs.Prelude.{◌≡◌, ℕ, ltb, Bool, false, not, ◌&&◌, ◌||◌, List, [], ◌∷◌, ◌++◌, flat_map, Option, Some, None, is_some, if◌then◌else◌}
+use Rattle.std.specs.Prelude.{◌≡◌, ℕ, ltb, Bool, false, not, ◌&&◌, ◌||◌, List, [], ◌∷◌, ◌++◌, flat_map, Option, Some, None, is_some}
+use Rattle.std.specs.Prelude.{if◌then◌else◌}
 use Rattle.std.specs.Bool.{then_some}
 use Rattle.lf_base.specs.declared.refusals.Refusal.{Refusal}
 use Rattle.lf_base.specs.declared.refusals.RefusalKind.{RefusalKind}
-use Rattle.lf_base.specs.declared.refusals.RefusalKind.TheVariants.{UnknownName, UnknownFunction, WrongArity, DuplicateFunction, DuplicateName, NotVariable}
+use Rattle.lf_base.specs.declared.refusals.RefusalKind.TheVariants.{UnknownName, UnknownFunction, WrongArity, DuplicateFunction}
+use Rattle.lf_base.specs.declared.refusals.RefusalKind.TheVariants.{DuplicateName, NotVariable}
 use Rattle.lf_base.specs.declared.refusals.ReadFail.{ReadFail}
 use Rattle.lf_base.specs.declared.refusals.ReadFail.TheVariants as fail
 use Rattle.lf_base.specs.Sets.{Member}
@@ -78,6 +80,6 @@ pub record IsFirstOf (all : List Refusal) (refusal : Refusal) : Type 0 where
   pub least : (other : Refusal) → Member other all → place_before other.place refusal.place ≡ false
 
 -- what failing says of a tree: want of memory may come at any
-abbrev pub FailsAs : List Text → PlainTree → ReadFail → Type 0
-FailsAs texts tree (fail.Refused refusal) = IsFirstOf (refusals texts tree) refusal
-FailsAs texts tree fail.OutOfMemory = Unit {0}
+abbrev pub ResolveFailsAs : List Text → PlainTree → ReadFail → Type 0
+ResolveFailsAs texts tree (fail.Refused refusal) = IsFirstOf (refusals texts tree) refusal
+ResolveFailsAs texts tree fail.OutOfMemory = Unit {0}

@@ -1,4 +1,4 @@
--- Sets of names by their ids.
+-- Sets of names by their ids, in code and as lists of names.
 use Rattle.std.specs.Prelude.{◌≡◌, List}
 use Rattle.std.specs.HashSet.{contains}
 use Rattle.lf_base.specs.declared.ids.TextId.{TextId}

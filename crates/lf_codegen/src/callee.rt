@@ -1,6 +1,8 @@
 ghost use Rattle.std.specs.Prelude.{◌≡◌, map};
 ghost use Rattle.lf_codegen.specs.Callees as spec;
-ghost use Rattle.lf_codegen.specs.Standing.{built_in_row};
+ghost use Rattle.lf_codegen.specs.TablesMean.{built_in_row};
+
+use lf_base::MOST_PARTS;
 
 /// What may be called by one name.
 #[derive(Clone, Copy, Debug, PartialEq, Eq)]
@@ -19,9 +21,9 @@ struct BuiltIn {
     callee: Callee,
 }
 
-const UP_TO_SIXTEEN: Callee = Callee {
+const UP_TO_MOST_PARTS: Callee = Callee {
     least: 0,
-    most: 16,
+    most: MOST_PARTS,
     asks: false,
 };
 
@@ -52,7 +54,7 @@ const QUESTION: Callee = Callee {
 const BUILT_INS: [BuiltIn; 12] = [
     BuiltIn {
         name: "print",
-        callee: UP_TO_SIXTEEN,
+        callee: UP_TO_MOST_PARTS,
     },
     BuiltIn {
         name: "Region",
@@ -103,7 +105,7 @@ const BUILT_INS: [BuiltIn; 12] = [
 impl Callee {
     /// A callee that takes so many arguments of any kind.
     pub fn taking(count: usize) -> Callee
-        ensures { result ≡ spec.takes count count }
+        ensures { result ≡ spec.callee_taking count count }
     {
         Callee {
             least: count,
@@ -117,12 +119,12 @@ impl Callee {
     pub fn built_in(name: &[u8]) -> Option<Callee>
         ensures { result ≡ spec.built_in name.now }
     {
-        named_in(&BUILT_INS, name)
+        built_in_among(&BUILT_INS, name)
     }
 }
 
-fn named_in(rows: &[BuiltIn], name: &[u8]) -> Option<Callee>
-    ensures { result ≡ spec.named_in (map built_in_row rows.now) name.now }
+fn built_in_among(rows: &[BuiltIn], name: &[u8]) -> Option<Callee>
+    ensures { result ≡ spec.built_in_among (map built_in_row rows.now) name.now }
 {
     for row in rows {
         if name == row.name.as_bytes() {

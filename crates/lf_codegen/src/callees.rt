@@ -5,7 +5,7 @@ ghost use Rattle.lf_parser.specs.Plain.{PlainFunction, plain_function};
 ghost use Rattle.lf_codegen.specs.Callees.{callee_of};
 ghost use Rattle.lf_codegen.specs.Earliest.{earliest};
 ghost use Rattle.lf_codegen.specs.NameRefusals.{call_refusal, kind_where, names_refusals, refusals_at};
-ghost use Rattle.lf_codegen.specs.Standing.{Knows};
+ghost use Rattle.lf_codegen.specs.TablesMean.{Knows};
 
 use crate::callee::Callee;
 use crate::first_refusal::FirstRefusal;
@@ -35,7 +35,8 @@ impl<'t> Callees<'t> {
 
     // What a call of this name means.
     fn callee(&self, name: TextId) -> Option<Callee>
-        ensures { (texts : List Text) (functions : List PlainFunction) → Knows self.now texts functions → result ≡ callee_of texts functions name }
+        ensures { (texts : List Text) (functions : List PlainFunction) →
+            Knows self.now texts functions → result ≡ callee_of texts functions name }
     {
         if let Some(callee) = Callee::built_in(self.texts.text(name)) {
             return Some(callee);
@@ -58,7 +59,7 @@ impl<'t> Callees<'t> {
         (callee.asks && !of_variable).then_some(RefusalKind::NotVariable)
     }
 
-    // Why a function of this name is refused behind those that are known.
+    // Why a function of this name is refused after those that are known.
     fn duplicate(&self, name: TextId) -> Option<RefusalKind>
         ensures { (texts : List Text) (functions : List PlainFunction) → Knows self.now texts functions
             → result ≡ kind_where (is_some (callee_of texts functions name)) DuplicateFunction }

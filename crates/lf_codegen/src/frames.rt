@@ -3,7 +3,7 @@
 ghost use Rattle.std.specs.Prelude.{◌≡◌, ◌++◌, List, IfOk, OnOk, map, flat_map};
 ghost use Rattle.lf_parser.specs.Plain.{plain_block, plain_function, plain_stmt, plain_tree};
 ghost use Rattle.lf_codegen.specs.Frames.{block_whens, frames as frames_spec, function_frame, function_whens, stmt_whens, when_frames};
-ghost use Rattle.lf_codegen.specs.Standing.{plain_frames};
+ghost use Rattle.lf_codegen.specs.TablesMean.{plain_frames};
 
 use crate::frame::Frame;
 use crate::lists::push;
@@ -21,7 +21,7 @@ fn extend(names: &mut Names, more: &[Name]) -> Result<(), OutOfMemory>
     Ok(())
 }
 
-// The names of two lists, one behind the other.
+// The names of two lists, one after the other.
 fn joined(alloc: Global, first: &Names, second: &Names) -> Result<Names, OutOfMemory>
     ensures { IfOk result (λ names. names ≡ first.now ++ second.now) }
 {
@@ -78,7 +78,8 @@ fn of_functions<'t>(
     out: &mut Vec<Frame<'t>>,
     functions: &'t [Function],
 ) -> Result<(), OutOfMemory>
-    ensures { OnOk result (plain_frames out.new.items ≡ plain_frames out.old.items ++ flat_map function_whens (map plain_function functions.now)) }
+    ensures { OnOk result (plain_frames out.new.items
+        ≡ plain_frames out.old.items ++ flat_map function_whens (map plain_function functions.now)) }
 {
     for function in functions {
         of_stmts(alloc, out, function.body.as_slice())?;
@@ -102,7 +103,8 @@ fn push_functions<'t>(
     out: &mut Vec<Frame<'t>>,
     functions: &'t [Function],
 ) -> Result<(), OutOfMemory>
-    ensures { OnOk result (plain_frames out.new.items ≡ plain_frames out.old.items ++ map function_frame (map plain_function functions.now)) }
+    ensures { OnOk result (plain_frames out.new.items
+        ≡ plain_frames out.old.items ++ map function_frame (map plain_function functions.now)) }
 {
     for function in functions {
         let mut own = Names::new(alloc);

@@ -5,14 +5,15 @@ ghost use Rattle.lf_base.specs.declared.refusals.Refusal.{Refusal};
 ghost use Rattle.lf_base.specs.Sets.{Member};
 ghost use Rattle.lf_base.specs.Texts.{Text};
 ghost use Rattle.lf_parser.specs.Plain.{PlainTree};
-ghost use Rattle.lf_parser.specs.Risings.{Rising};
+ghost use Rattle.lf_parser.specs.Ascending.{Ascending};
 ghost use Rattle.lf_parser.specs.TreeNames.{stands_before};
-ghost use Rattle.lf_codegen.specs.Frames.{PlainFrame, frames, line_of, variables, when_frames};
-ghost use Rattle.lf_codegen.specs.Reading.{IsFirstRefusal, IsParsed, IsRead};
+ghost use Rattle.lf_codegen.specs.Frames.{PlainFrame, frames, frame_line, variables, when_frames};
+ghost use Rattle.lf_codegen.specs.ScriptReading.{IsFirstRefusal, IsParsed, IsRead};
 
 /// Each list of bytes spells a script whose names and calls are right, or has a first refusal.
 pub fn scripts_are_read_or_refused()
-    ensures { (bytes : List ℕ) → ((texts : List Text) × ((tree : PlainTree) × IsRead bytes texts tree)) ⊎ ((refusal : Refusal) × IsFirstRefusal bytes refusal) }
+    ensures { (bytes : List ℕ) → ((texts : List Text) × ((tree : PlainTree) × IsRead bytes texts tree))
+        ⊎ ((refusal : Refusal) × IsFirstRefusal bytes refusal) }
 {}
 
 /// Some bytes spell one list of texts and one tree at most, and have one first refusal at
@@ -29,12 +30,13 @@ pub fn one_answer()
 
 /// The frames of a script's `when`s are in the order of their lines, and no two have one line.
 pub fn whens_in_order()
-    ensures { (bytes : List ℕ) (x : List Text) (t : PlainTree) → IsParsed bytes x t → Rising ltb (map line_of (when_frames t)) }
+    ensures { (bytes : List ℕ) (x : List Text) (t : PlainTree) → IsParsed bytes x t → Ascending ltb (map frame_line (when_frames t)) }
 {}
 
-/// In each frame of a script, the variables in the order of their numbers stand one behind
+/// In each frame of a script, the variables in the order of their numbers stand one after
 /// the other by line and column: a function's parameters and the names of a `when` before the
 /// variables of the body.
 pub fn variables_in_order()
-    ensures { (bytes : List ℕ) (x : List Text) (t : PlainTree) (f : PlainFrame) → IsParsed bytes x t → Member f (frames t) → Rising stands_before (variables f) }
+    ensures { (bytes : List ℕ) (x : List Text) (t : PlainTree) (f : PlainFrame) →
+        IsParsed bytes x t → Member f (frames t) → Ascending stands_before (variables f) }
 {}

@@ -25,6 +25,3 @@ mod variables;
 pub use resolved::Resolved;
 pub use resolving::resolve;
 pub use script::{Script, read};
-
-#[cfg(test)]
-mod tests;

@@ -3,7 +3,8 @@
 ghost use Rattle.std.specs.Prelude.{◌≡◌, ◌++◌, ◌∷◌, [], map, IfOk, OnOk};
 ghost use Rattle.lf_codegen.specs.declared.mention.Mention.TheVariants.{Call};
 ghost use Rattle.lf_parser.specs.Plain.{args_of, plain_block, plain_expr, plain_stmt, plain_value};
-ghost use Rattle.lf_codegen.specs.Mentions.{are_one_variable as one_variable_spec, is_variable as variable_spec, args_count, block_mentions, expr_mentions, stmt_mentions, uses as uses_of, value_mentions};
+ghost use Rattle.lf_codegen.specs.Mentions.{are_one_variable as one_variable_spec, is_variable as variable_spec, args_count};
+ghost use Rattle.lf_codegen.specs.Mentions.{block_mentions, expr_mentions, stmt_mentions, uses as uses_of, value_mentions};
 ghost use Rattle.lf_codegen.specs.Parts.{args_back, own_mentions, parts_back, plain_lent};
 
 use crate::mention::Mention;
@@ -50,7 +51,8 @@ fn leave<'a>(unvisited: &mut Unvisited<'a>, expr: &'a Expr) -> Result<(), OutOfM
 
 // Leaves arguments to be visited, the first one next.
 fn leave_args<'a>(unvisited: &mut Unvisited<'a>, args: &'a [Expr]) -> Result<(), OutOfMemory>
-    ensures { OnOk result (plain_lent unvisited.new.items ≡ plain_lent unvisited.old.items ++ args_back (args_of (map plain_expr args.now))) }
+    ensures { OnOk result (plain_lent unvisited.new.items
+        ≡ plain_lent unvisited.old.items ++ args_back (args_of (map plain_expr args.now))) }
 {
     Ok(unvisited.extend(args.iter().rev())?)
 }

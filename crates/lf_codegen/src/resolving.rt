@@ -6,9 +6,10 @@ ghost use Rattle.lf_parser.specs.declared.name.Name.{Name as AName};
 ghost use Rattle.lf_parser.specs.Plain.{PlainFunction, plain_function, plain_tree};
 ghost use Rattle.lf_codegen.specs.Earliest.{earliest};
 ghost use Rattle.lf_codegen.specs.Frames.{binds, frames as frames_spec, variables as variables_spec};
-ghost use Rattle.lf_codegen.specs.NameRefusals.{FailsAs, Resolves, frame_refusals, mention_refusals, params_refusals, refusals, repeats};
+ghost use Rattle.lf_codegen.specs.NameRefusals.{ResolveFailsAs, Resolves, frame_refusals, mention_refusals, params_refusals, refusals};
+ghost use Rattle.lf_codegen.specs.NameRefusals.{repeats};
 ghost use Rattle.lf_codegen.specs.NameSets.{HasNames};
-ghost use Rattle.lf_codegen.specs.Standing.{Knows, plain_frame, plain_frames};
+ghost use Rattle.lf_codegen.specs.TablesMean.{Knows, plain_frame, plain_frames};
 
 use crate::callees::Callees;
 use crate::first_refusal::FirstRefusal;
@@ -51,7 +52,8 @@ fn judge_functions(
 
 // Notes what is wrong with a mention, in a frame that binds these names.
 fn judge_mention(callees: &Callees<'_>, bound: &NameSet, mention: Mention, first: &mut FirstRefusal)
-    ensures { (texts : List Text) (functions : List PlainFunction) (names : List AName) → Knows callees.now texts functions → HasNames bound.now names
+    ensures { (texts : List Text) (functions : List PlainFunction) (names : List AName) →
+        Knows callees.now texts functions → HasNames bound.now names
         → first.new.refusal ≡ earliest first.old.refusal (mention_refusals texts functions names mention) }
 {
     match mention {
@@ -74,7 +76,8 @@ fn judge_mentions(
     mentions: &[Mention],
     first: &mut FirstRefusal,
 )
-    ensures { (texts : List Text) (functions : List PlainFunction) (names : List AName) → Knows callees.now texts functions → HasNames bound.now names
+    ensures { (texts : List Text) (functions : List PlainFunction) (names : List AName) →
+        Knows callees.now texts functions → HasNames bound.now names
         → first.new.refusal ≡ earliest first.old.refusal (flat_map (mention_refusals texts functions names) mentions.now) }
 {
     for mention in mentions {
@@ -160,11 +163,11 @@ fn judge(
 ///   its name.
 /// - `DuplicateName`: a parameter with the name of an earlier one, at that parameter.
 ///
-/// `OutOfMemory` comes only where memory runs out.
+/// No clause says when `OutOfMemory` comes.
 pub fn resolve(alloc: Global, tree: Tree, texts: &Texts) -> Result<Resolved, ReadFail>
     ensures tree { IfOk result (λ resolved. resolved ≡ tree) }
     ensures resolves { IfOk result (λ _. Resolves texts.now (plain_tree tree)) }
-    ensures refused { IfErr result (FailsAs texts.now (plain_tree tree)) }
+    ensures refused { IfErr result (ResolveFailsAs texts.now (plain_tree tree)) }
 {
     let (names, first) = judge(alloc, &tree, texts)?;
     if let Some(refusal) = first.refusal {

@@ -2,8 +2,8 @@ ghost use Rattle.std.specs.Prelude.{◌≤◌, length, IfErr, IfOk, List};
 ghost use Rattle.lf_base.specs.declared.refusals.Refusal.{Refusal};
 ghost use Rattle.lf_base.specs.Texts.{Text};
 ghost use Rattle.lf_parser.specs.Plain.{PlainTree, plain_tree};
-ghost use Rattle.lf_codegen.specs.Exactly.{Gives, Refuses};
-ghost use Rattle.lf_codegen.specs.Reading.{FailsAs, IsFirstRefusal, IsRead};
+ghost use Rattle.lf_codegen.specs.Exactly.{GivesScript, GivesRefusal};
+ghost use Rattle.lf_codegen.specs.ScriptReading.{ReadFailsAs, IsFirstRefusal, IsRead};
 
 use crate::resolved::Resolved;
 use crate::resolving::resolve;
@@ -23,7 +23,7 @@ pub struct Script {
 fn read_script(alloc: Global, bytes: &[u8]) -> Result<Script, ReadFail>
     requires { length bytes.now ≤ MOST_SCRIPT_BYTES }
     ensures read { IfOk result (λ script. IsRead bytes.now script.texts (plain_tree script.resolved)) }
-    ensures refused { IfErr result (FailsAs bytes.now) }
+    ensures refused { IfErr result (ReadFailsAs bytes.now) }
 {
     let lexed = lex(alloc, bytes)?;
     laws::spelled_tokens_are_readable();
@@ -39,14 +39,14 @@ fn read_script(alloc: Global, bytes: &[u8]) -> Result<Script, ReadFail>
 ///
 /// It answers the resolved tree and the texts that the bytes spell exactly where they spell one, and
 /// else their first refusal: of the bytes and tokens (`docs/TOKENS.md`), else of the grammar
-/// (`docs/GRAMMAR.md`), else of the names (`docs/NAMES.md`). `OutOfMemory` comes only where
-/// memory runs out.
+/// (`docs/GRAMMAR.md`), else of the names (`docs/NAMES.md`). No clause says when
+/// `OutOfMemory` comes.
 pub fn read(alloc: Global, bytes: &[u8]) -> Result<Script, ReadFail>
     requires { length bytes.now ≤ MOST_SCRIPT_BYTES }
     ensures read { IfOk result (λ script. IsRead bytes.now script.texts (plain_tree script.resolved)) }
-    ensures refused { IfErr result (FailsAs bytes.now) }
-    ensures wherever_read { (texts : List Text) (tree : PlainTree) → IsRead bytes.now texts tree → Gives result texts tree }
-    ensures wherever_refused { (refusal : Refusal) → IsFirstRefusal bytes.now refusal → Refuses result refusal }
+    ensures refused { IfErr result (ReadFailsAs bytes.now) }
+    ensures wherever_read { (texts : List Text) (tree : PlainTree) → IsRead bytes.now texts tree → GivesScript result texts tree }
+    ensures wherever_refused { (refusal : Refusal) → IsFirstRefusal bytes.now refusal → GivesRefusal result refusal }
 {
     read_script(alloc, bytes)
 }

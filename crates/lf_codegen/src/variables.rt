@@ -1,7 +1,7 @@
 ghost use Rattle.std.specs.Prelude.{◌≡◌, ◌++◌, [], List, IfOk, OnOk, flat_map, fold};
 ghost use Rattle.lf_parser.specs.declared.name.Name.{Name as AName};
-ghost use Rattle.lf_codegen.specs.Frames.{distinct, variable_of, with_name};
-ghost use Rattle.lf_codegen.specs.Standing.{AreOnce};
+ghost use Rattle.lf_codegen.specs.Frames.{distinct, variable_of, with_new_name};
+ghost use Rattle.lf_codegen.specs.TablesMean.{AreOnce};
 
 use crate::lists::push;
 use crate::mention::Mention;
@@ -29,7 +29,7 @@ impl DistinctNames {
 
     // One name more, which goes last where it is new.
     fn add(&mut self, name: Name) -> Result<(), OutOfMemory>
-        ensures { OnOk result ((names : List AName) → AreOnce self.old names → AreOnce self.new (with_name names name)) }
+        ensures { OnOk result ((names : List AName) → AreOnce self.old names → AreOnce self.new (with_new_name names name)) }
     {
         if !self.seen.add(name)? {
             return Ok(());
@@ -38,7 +38,7 @@ impl DistinctNames {
     }
 
     fn add_all(&mut self, more: &[Name]) -> Result<(), OutOfMemory>
-        ensures { OnOk result ((names : List AName) → AreOnce self.old names → AreOnce self.new (fold with_name names more.now)) }
+        ensures { OnOk result ((names : List AName) → AreOnce self.old names → AreOnce self.new (fold with_new_name names more.now)) }
     {
         for name in more {
             self.add(*name)?;
@@ -48,7 +48,8 @@ impl DistinctNames {
 
     // The variable that a mention uses or binds, where it is such a one.
     fn add_mention(&mut self, mention: Mention) -> Result<(), OutOfMemory>
-        ensures { OnOk result ((names : List AName) → AreOnce self.old names → AreOnce self.new (fold with_name names (variable_of mention))) }
+        ensures { OnOk result ((names : List AName) → AreOnce self.old names →
+            AreOnce self.new (fold with_new_name names (variable_of mention))) }
     {
         match mention {
             Mention::Use(name) | Mention::Bind(name) => self.add(name),
@@ -57,7 +58,8 @@ impl DistinctNames {
     }
 
     fn add_mentioned(&mut self, mentions: &[Mention]) -> Result<(), OutOfMemory>
-        ensures { OnOk result ((names : List AName) → AreOnce self.old names → AreOnce self.new (fold with_name names (flat_map variable_of mentions.now))) }
+        ensures { OnOk result ((names : List AName) → AreOnce self.old names →
+            AreOnce self.new (fold with_new_name names (flat_map variable_of mentions.now))) }
     {
         for mention in mentions {
             self.add_mention(*mention)?;

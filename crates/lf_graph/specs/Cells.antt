@@ -24,30 +24,38 @@ same_field a b = same_name a.row b.row && same_key a.key b.key
 abbrev pub field_name : ObjId → Key → FieldName
 field_name o k = record { row = o; key = k }
 
+-- the cell of each row and key, where there is one
+abbrev pub CellsAt : Type 0
+CellsAt = ObjId → Key → Option Cell
+
 -- the cell of a row's key
-abbrev pub cells_of : Cells → ObjId → Key → Option Cell
+abbrev pub cells_of : Cells → CellsAt
 cells_of t o k = hash.get same_field t.cells (field_name o k)
 
 -- how many more cells the table takes without memory, and without passing the most that it may have
-abbrev pub room : Cells → ℕ
-room t = min (spare t.cells) (MOST_CELLS - hash_map_len t.cells)
+abbrev pub cells_room : Cells → ℕ
+cells_room t = min (spare t.cells) (MOST_CELLS - hash_map_len t.cells)
 
 -- the value of a row's key
-abbrev pub value_of : (ObjId → Key → Option Cell) → ObjId → Key → Option Value
-value_of cells o k = option_map (λ c. c.value) (cells o k)
+abbrev pub cell_value : CellsAt → ObjId → Key → Option Value
+cell_value cells o k = option_map (λ c. c.value) (cells o k)
 
 -- the keys before and after a row's key
-abbrev pub link_of : (ObjId → Key → Option Cell) → ObjId → Key → Option (Link Key)
+abbrev pub link_of : CellsAt → ObjId → Key → Option (Link Key)
 link_of cells o k = option_map (λ c. c.link) (cells o k)
 
 -- the row has that key
-abbrev pub has_cell : (ObjId → Key → Option Cell) → ObjId → Key → Bool
+abbrev pub has_cell : CellsAt → ObjId → Key → Bool
 has_cell cells o k = is_some (cells o k)
 
 -- the keys of row o are these, in this order, and `ends` is kept of them
-pub record IsFieldList (cells : ObjId → Key → Option Cell) (o : ObjId) (ends : FieldEnds) (keys : List Key) : Type 0 where
+pub record IsFieldList (cells : CellsAt) (o : ObjId) (ends : FieldEnds) (keys : List Key) : Type 0 where
   pub list : IsList same_key (link_of cells o) ends.first ends.last (has_cell cells o) keys
   pub width : ends.width ≡ length keys
+
+-- whatever the keys of row o are before a call, they are afterwards what `change` makes of them
+abbrev pub KeysBecome : CellsAt → CellsAt → ObjId → FieldEnds → FieldEnds → (List Key → List Key) → Type 0
+KeysBecome old new o before after change = (keys : List Key) → IsFieldList old o before keys → IsFieldList new o after (change keys)
 
 -- the value found, or `None` where there is none
 abbrev pub found_value : Option Value → Value
@@ -55,23 +63,23 @@ found_value None = value.None
 found_value (Some v) = v
 
 -- a key with its value
-abbrev pub paired : (ObjId → Key → Option Cell) → ObjId → Key → Key × Value
-paired cells o k = (k, found_value (value_of cells o k))
+abbrev pub paired : CellsAt → ObjId → Key → Key × Value
+paired cells o k = (k, found_value (cell_value cells o k))
 
 -- each key with its value
-abbrev pub pairs : (ObjId → Key → Option Cell) → ObjId → List Key → List (Key × Value)
+abbrev pub pairs : CellsAt → ObjId → List Key → List (Key × Value)
 pairs cells o keys = map (paired cells o) keys
 
 -- the cells of every other row are as before
-abbrev pub OthersStay : (ObjId → Key → Option Cell) → (ObjId → Key → Option Cell) → ObjId → Type 0
+abbrev pub OthersStay : CellsAt → CellsAt → ObjId → Type 0
 OthersStay old new o = (q : ObjId) → (k : Key) → same_name o q ≡ false → new q k ≡ old q k
 
 -- of row o only the value at that key changes
-abbrev pub OnlyValueAt : (ObjId → Key → Option Cell) → (ObjId → Key → Option Cell) → ObjId → Key → Option Value → Type 0
-OnlyValueAt old new o key v = (k : Key) → value_of new o k ≡ cond (same_key key k) v (value_of old o k)
+abbrev pub OnlyValueAt : CellsAt → CellsAt → ObjId → Key → Option Value → Type 0
+OnlyValueAt old new o key v = (k : Key) → cell_value new o k ≡ cond (same_key key k) v (cell_value old o k)
 
 -- only the cell of that row and key changes, and f says how
-abbrev pub OnlyCellAt : (ObjId → Key → Option Cell) → (ObjId → Key → Option Cell) → ObjId → Key → (Option Cell → Option Cell) → Type 0
+abbrev pub OnlyCellAt : CellsAt → CellsAt → ObjId → Key → (Option Cell → Option Cell) → Type 0
 OnlyCellAt old new o key f = (q : ObjId) → (k : Key) → new q k ≡ cond (same_name o q && same_key key k) (f (old q k)) (old q k)
 
 -- a cell with another value
@@ -83,27 +91,28 @@ abbrev pub with_link : (Link Key → Link Key) → Cell → Cell
 with_link f c = record c { link = f c.link }
 
 -- only the link of one key of a row changes, where there is such a key
-abbrev pub RelinksField : (ObjId → Key → Option Cell) → (ObjId → Key → Option Cell) → ObjId → Option Key → (Link Key → Link Key) → Type 0
+abbrev pub RelinksField : CellsAt → CellsAt → ObjId → Option Key → (Link Key → Link Key) → Type 0
 RelinksField old new o None f = (q : ObjId) → (k : Key) → new q k ≡ old q k
 RelinksField old new o (Some key) f = OnlyCellAt old new o key (option_map (with_link f))
 
 -- the cell of that key is gone, where there is such a key
-abbrev pub DropsCell : (ObjId → Key → Option Cell) → (ObjId → Key → Option Cell) → ObjId → Option Key → Type 0
+abbrev pub DropsCell : CellsAt → CellsAt → ObjId → Option Key → Type 0
 DropsCell old new o None = (q : ObjId) → (k : Key) → new q k ≡ old q k
 DropsCell old new o (Some key) = OnlyCellAt old new o key (λ _. None)
 
 -- the ends with one more key at the end
-abbrev pub ends_with : Key → FieldEnds → FieldEnds
-ends_with k t = record { first = front_with k t.first; last = Some k; width = t.width + 1 }
+abbrev pub field_ends_with : Key → FieldEnds → FieldEnds
+field_ends_with k t = record { first = front_with k t.first; last = Some k; width = t.width + 1 }
 
 -- the ends without the key of that link
-abbrev pub ends_without : Link Key → FieldEnds → FieldEnds
-ends_without l t = record { first = front_without l t.first; last = back_without l t.last; width = t.width - 1 }
+abbrev pub field_ends_without : Link Key → FieldEnds → FieldEnds
+field_ends_without l t = record { first = front_without l t.first; last = back_without l t.last; width = t.width - 1 }
 
 -- the keys of a row, by a walk from the first one
-abbrev pub walked_keys : (ObjId → Key → Option Cell) → ObjId → FieldEnds → List Key
+abbrev pub walked_keys : CellsAt → ObjId → FieldEnds → List Key
 walked_keys cells o ends = walk ends.width (link_of cells o) ends.first
 
 -- the field of that key, where there is one, comes last among the fields, and the key after it is given
-abbrev pub CopiesField : (ObjId → Key → Option Cell) → ObjId → Option Key → List (Key × Value) → List (Key × Value) → Option Key → Type 0
-CopiesField cells o at old new next = (key : Key) → (c : Cell) → at ≡ Some key → cells o key ≡ Some c → (new ≡ old ++ (key, c.value) ∷ []) × (next ≡ c.link.next)
+abbrev pub CopiesField : CellsAt → ObjId → Option Key → List (Key × Value) → List (Key × Value) → Option Key → Type 0
+CopiesField cells o at old new next =
+    (key : Key) → (c : Cell) → at ≡ Some key → cells o key ≡ Some c → (new ≡ old ++ (key, c.value) ∷ []) × (next ≡ c.link.next)

@@ -1,13 +1,15 @@
--- What the tables of linked rows hold.
-use Rattle.std.specs.Prelude.{Option, ℕ}
+-- What the tables hold that keep the chains: each row with its links, the ends of each owner's rows, and room for more.
+use Rattle.std.specs.Prelude.{List, Option, ℕ}
 use Rattle.std.specs.HashMap.{spare}
 use Rattle.lf_base.specs.declared.ids.ObjId.{ObjId}
 use Rattle.lf_base.specs.declared.values.Owner.{Owner}
 use Rattle.lf_base.specs.declared.values.Owner.TheVariants.{Frozen, In, Local}
+use Rattle.lf_graph.specs.declared.chains.Chains.{Chains}
 use Rattle.lf_graph.specs.declared.ends.Ends.{Ends}
 use Rattle.lf_graph.specs.declared.owner_ends.OwnerEnds.{OwnerEnds}
 use Rattle.lf_graph.specs.declared.row_table.RowTable.{RowTable}
 use Rattle.lf_graph.specs.declared.stored_row.Linked.{Linked}
+use Rattle.lf_graph.specs.Chains.{AreChains}
 use Rattle.lf_graph.specs.RegionEnds.{region_ends}
 use Rattle.lf_graph.specs.RowTables.{heads_in, row_room}
 
@@ -28,3 +30,11 @@ ends_of t Frozen = t.frozen
 -- so many more owners have room
 abbrev pub ends_room : OwnerEnds → ℕ
 ends_room t = spare (t.regions).ends
+
+-- the rows of each owner are its list, in this order
+abbrev pub HasLists : Chains → (Owner → List ObjId) → Type 0
+HasLists t lists = AreChains (heads_of t.rows) (ends_of t.ends) lists
+
+-- whatever the list of each owner is before a call, it is afterwards what `change` makes of it
+abbrev pub ListsBecome : Chains → Chains → ((Owner → List ObjId) → Owner → List ObjId) → Type 0
+ListsBecome old new change = (lists : Owner → List ObjId) → HasLists old lists → HasLists new (change lists)

@@ -1,4 +1,4 @@
--- The rows of each owner, linked in their order: what the links and ends that are kept spell.
+-- Chains: the rows of each owner as a linked list, by the links that are kept with rows and the ends that are kept for owners.
 use Rattle.std.specs.Prelude.{Bool, List, None, Option, Some, [], cond, false, ◌++◌, ◌∷◌, ◌≡◌}
 use Rattle.std.specs.Option.{option_map}
 use Rattle.lf_base.specs.declared.ids.ObjId.{ObjId}
@@ -8,16 +8,15 @@ use Rattle.lf_graph.specs.declared.ends.Ends.{Ends}
 use Rattle.lf_base.specs.declared.links.Link.{Link}
 use Rattle.lf_graph.specs.declared.stored_row.Linked.{Linked}
 use Rattle.lf_graph.specs.declared.stored_row.StoredRow.{StoredRow}
-use Rattle.lf_base.specs.Links as links
-use Rattle.lf_base.specs.Links.{Differ, Spells, head_or, last_or, relinked, to_next, to_prev}
+use Rattle.lf_base.specs.Links.{IsList, relinked, to_next, to_prev, without}
 
--- what is kept of a row
-abbrev pub head_at : (ObjId → Option Linked) → ObjId → Option Linked
-head_at heads o = heads o
+-- each row by its name, with the rows before and after it
+abbrev pub HeadsAt : Type 0
+HeadsAt = ObjId → Option Linked
 
 -- the rows before and after a row
-abbrev pub link_at : (ObjId → Option Linked) → ObjId → Option (Link ObjId)
-link_at heads o = option_map (λ h. h.link) (head_at heads o)
+abbrev pub link_at : HeadsAt → ObjId → Option (Link ObjId)
+link_at heads o = option_map (λ h. h.link) (heads o)
 
 -- the row without its neighbours, where there is one
 abbrev pub row_of_head : Option Linked → Option StoredRow
@@ -28,79 +27,68 @@ abbrev pub owner_of_head : Option Linked → Option Owner
 owner_of_head head = option_map (λ (r : StoredRow). r.owner) (row_of_head head)
 
 -- the row of that name
-abbrev pub row_at : (ObjId → Option Linked) → ObjId → Option StoredRow
-row_at heads o = row_of_head (head_at heads o)
+abbrev pub linked_row_at : HeadsAt → ObjId → Option StoredRow
+linked_row_at heads o = row_of_head (heads o)
 
 -- a row's owner
-abbrev pub owner_at : (ObjId → Option Linked) → ObjId → Option Owner
-owner_at heads o = owner_of_head (head_at heads o)
-
--- the first and the last row of an owner
-abbrev pub ends_at : (Owner → Option Ends) → Owner → Option Ends
-ends_at ends w = ends w
+abbrev pub linked_owner_at : HeadsAt → ObjId → Option Owner
+linked_owner_at heads o = owner_of_head (heads o)
 
 -- only the link of one row changes
-pub record Relinks (old new : ObjId → Option Linked) (at : Option ObjId) (f : Link ObjId → Link ObjId) : Type 0 where
+pub record Relinks (old new : HeadsAt) (at : Option ObjId) (f : Link ObjId → Link ObjId) : Type 0 where
   pub links : (q : ObjId) → link_at new q ≡ relinked same_name (link_at old) at f q
-  pub rows : (q : ObjId) → row_at new q ≡ row_at old q
+  pub rows : (q : ObjId) → linked_row_at new q ≡ linked_row_at old q
 
 -- only what comes after one row changes
-abbrev pub RelinksNext : (ObjId → Option Linked) → (ObjId → Option Linked) → Option ObjId → Option ObjId → Type 0
+abbrev pub RelinksNext : HeadsAt → HeadsAt → Option ObjId → Option ObjId → Type 0
 RelinksNext old new at next = Relinks old new at (to_next next)
 
 -- only what comes before one row changes
-abbrev pub RelinksPrev : (ObjId → Option Linked) → (ObjId → Option Linked) → Option ObjId → Option ObjId → Type 0
+abbrev pub RelinksPrev : HeadsAt → HeadsAt → Option ObjId → Option ObjId → Type 0
 RelinksPrev old new at prev = Relinks old new at (to_prev prev)
 
--- the name stands in the list
-abbrev pub has : ObjId → List ObjId → Bool
-has x xs = links.has same_name x xs
-
 -- the owner found is that one
-abbrev pub is_of : Owner → Option Owner → Bool
-is_of w None = false
-is_of w (Some v) = same_owner v w
-
--- the names without one
-abbrev pub without : ObjId → List ObjId → List ObjId
-without x xs = links.without same_name x xs
-
--- the name after one
-abbrev pub after : ObjId → List ObjId → Option ObjId
-after x xs = links.after same_name x xs
+abbrev pub is_this_owner : Owner → Option Owner → Bool
+is_this_owner w None = false
+is_this_owner w (Some v) = same_owner v w
 
 -- the ends with one more row at the end
-abbrev pub ends_with : ObjId → Option Ends → Option Ends
-ends_with o None = Some (record { first = o; last = o })
-ends_with o (Some t) = Some (record t { last = o })
+abbrev pub owner_ends_with : ObjId → Option Ends → Option Ends
+owner_ends_with o None = Some (record { first = o; last = o })
+owner_ends_with o (Some t) = Some (record t { last = o })
 
 -- the ends without the row between these two
-abbrev pub ends_without : Option ObjId → Option ObjId → Option Ends → Option Ends
-ends_without None None t = None
-ends_without None (Some n) t = option_map (λ (x : Ends). record x { first = n }) t
-ends_without (Some p) None t = option_map (λ (x : Ends). record x { last = p }) t
-ends_without (Some p) (Some n) t = t
+abbrev pub owner_ends_without : Option ObjId → Option ObjId → Option Ends → Option Ends
+owner_ends_without None None t = None
+owner_ends_without None (Some n) t = option_map (λ (x : Ends). record x { first = n }) t
+owner_ends_without (Some p) None t = option_map (λ (x : Ends). record x { last = p }) t
+owner_ends_without (Some p) (Some n) t = t
 
-module _ (heads : ObjId → Option Linked) (ends : Owner → Option Ends) where
+-- the first row of an owner, where there is one
+abbrev pub first_of : Option Ends → Option ObjId
+first_of t = option_map (λ (x : Ends). x.first) t
+
+-- the last row of an owner, where there is one
+abbrev pub last_of : Option Ends → Option ObjId
+last_of t = option_map (λ (x : Ends). x.last) t
+
+module _ (heads : HeadsAt) (ends : Owner → Option Ends) where
   -- the rows of w are xs, in this order
-  pub record IsChain (w : Owner) (xs : List ObjId) : Type 0 where
-    pub links : Spells (link_at heads) None xs None
-    pub differ : Differ same_name xs
-    pub first : option_map (λ (t : Ends). t.first) (ends_at ends w) ≡ head_or xs None
-    pub last : option_map (λ (t : Ends). t.last) (ends_at ends w) ≡ last_or None xs
-    pub members : (q : ObjId) → has q xs ≡ is_of w (owner_at heads q)
+  abbrev pub IsChain : Owner → List ObjId → Type 0
+  IsChain w xs =
+      IsList same_name (link_at heads) (first_of (ends w)) (last_of (ends w)) (λ q. is_this_owner w (linked_owner_at heads q)) xs
 
   -- the rows of each owner are its list, in this order
   abbrev pub AreChains : (Owner → List ObjId) → Type 0
   AreChains lists = (w : Owner) → IsChain w (lists w)
 
 -- only what is found at o changes
-abbrev pub OnlyRowAt : (ObjId → Option Linked) → (ObjId → Option Linked) → ObjId → Option Linked → Type 0
-OnlyRowAt old new o v = (q : ObjId) → head_at new q ≡ cond (same_name o q) v (head_at old q)
+abbrev pub OnlyRowAt : HeadsAt → HeadsAt → ObjId → Option Linked → Type 0
+OnlyRowAt old new o v = (q : ObjId) → new q ≡ cond (same_name o q) v (old q)
 
 -- only the ends of one owner change
 abbrev pub OnlyEndsOf : (Owner → Option Ends) → (Owner → Option Ends) → Owner → Option Ends → Type 0
-OnlyEndsOf old new owner v = (w : Owner) → ends_at new w ≡ cond (same_owner owner w) v (ends_at old w)
+OnlyEndsOf old new owner v = (w : Owner) → new w ≡ cond (same_owner owner w) v (old w)
 
 -- the lists with o last under that owner
 abbrev pub pushed : (Owner → List ObjId) → Owner → ObjId → Owner → List ObjId
@@ -108,8 +96,8 @@ pushed lists owner o w = cond (same_owner owner w) (lists w ++ o ∷ []) (lists 
 
 -- the lists without o
 abbrev pub left_without : (Owner → List ObjId) → ObjId → Owner → List ObjId
-left_without lists o w = without o (lists w)
+left_without lists o w = without same_name o (lists w)
 
 -- only the row of that name changes, or comes or goes
-abbrev pub OnlyStoredAt : (ObjId → Option Linked) → (ObjId → Option Linked) → ObjId → Option StoredRow → Type 0
-OnlyStoredAt old new o row = (q : ObjId) → row_at new q ≡ cond (same_name o q) row (row_at old q)
+abbrev pub OnlyStoredAt : HeadsAt → HeadsAt → ObjId → Option StoredRow → Type 0
+OnlyStoredAt old new o row = (q : ObjId) → linked_row_at new q ≡ cond (same_name o q) row (linked_row_at old q)

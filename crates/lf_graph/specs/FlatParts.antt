@@ -4,14 +4,14 @@ use Rattle.lf_base.specs.declared.ids.ObjId.{ObjId}
 use Rattle.lf_base.specs.declared.values.Key.{Key}
 use Rattle.lf_base.specs.declared.values.Owner.TheVariants.{In}
 use Rattle.lf_base.specs.declared.values.Value.{Value}
-use Rattle.lf_base.specs.Links.{Differ}
+use Rattle.lf_base.specs.Links.{NodesDiffer}
 use Rattle.lf_base.specs.Names.{same_key, same_name}
-use Rattle.lf_graph.specs.declared.cells.Cell.{Cell}
 use Rattle.lf_graph.specs.declared.flat_part.PartRow.{PartRow}
 use Rattle.lf_graph.specs.declared.store.RowHead.{RowHead}
-use Rattle.lf_graph.specs.declared.stored_row.Linked.{Linked}
-use Rattle.lf_graph.specs.FlatRows.{counted_at}
 use Rattle.lf_graph.specs.StoredRows.{CountedRow}
+use Rattle.lf_graph.specs.FlatRows.{whole_row_at}
+use Rattle.lf_graph.specs.Cells.{CellsAt}
+use Rattle.lf_graph.specs.Chains.{HeadsAt}
 
 -- a row of a part, as it was in its region
 abbrev pub part_row : ObjId → PartRow → CountedRow
@@ -27,7 +27,7 @@ part_view region rows = record { region = region; rows = map (part_row region) r
 
 -- no key of a row comes twice, and the number of its fields is kept with them
 pub record IsPartRow (r : PartRow) : Type 0 where
-  pub differ : Differ same_key (map (λ f. f.0) r.fields)
+  pub differ : NodesDiffer same_key (map (λ f. f.0) r.fields)
   pub width : r.width ≡ length r.fields
 
 -- each row is one
@@ -38,13 +38,13 @@ EachRow (r ∷ rs) = IsPartRow r × EachRow rs
 -- each row is one, and no name comes twice
 pub record IsPart (rows : List PartRow) : Type 0 where
   pub each : EachRow rows
-  pub names : Differ same_name (map (λ r. r.name) rows)
+  pub names : NodesDiffer same_name (map (λ r. r.name) rows)
 
 -- the row is a copy of the one of that name, whatever its owner
-pub record CopiesRow (heads : ObjId → Option Linked) (cells : ObjId → Key → Option Cell) (o : ObjId) (r : PartRow) : Type 0 where
+pub record CopiesRow (heads : HeadsAt) (cells : CellsAt) (o : ObjId) (r : PartRow) : Type 0 where
   pub name : r.name ≡ o
-  pub refs : r.refs ≡ (counted_at heads cells o).refs
-  pub fields : r.fields ≡ ((counted_at heads cells o).row).fields
+  pub refs : r.refs ≡ (whole_row_at heads cells o).refs
+  pub fields : r.fields ≡ ((whole_row_at heads cells o).row).fields
 
 -- what is told of a row at once
 abbrev pub part_head : PartRow → RowHead

@@ -3,7 +3,7 @@ use Rattle.std.specs.Prelude.{List, Some, is_some, cond, length, ℕ, ◌+◌, �
 use Rattle.lf_base.specs.declared.ids.ObjId.{ObjId}
 use Rattle.lf_base.specs.declared.values.Key.{Key}
 use Rattle.lf_base.specs.declared.values.Owner.{Owner}
-use Rattle.lf_graph.specs.StoredRows.{CountedRow, fields_at, owner_at, value_at}
+use Rattle.lf_graph.specs.StoredRows.{CountedRow, field_value_at, fields_at, owner_at}
 
 -- no owner has less room than before
 abbrev pub LowersNone : (Owner → ℕ) → (Owner → ℕ) → Type 0
@@ -23,7 +23,7 @@ OwnerHasRoom spare rows o n = (w : Owner) → owner_at rows o ≡ Some w → n �
 
 -- what a write of field k of row o needs: 1 where the field is new, and else nothing
 abbrev pub room_for_field : List CountedRow → ObjId → Key → ℕ
-room_for_field rows o k = cond (is_some (value_at rows o k)) 0 1
+room_for_field rows o k = cond (is_some (field_value_at rows o k)) 0 1
 
 -- what row o needs under a new owner: 1, and 1 for each field
 abbrev pub room_for_row : List CountedRow → ObjId → ℕ

@@ -30,12 +30,12 @@ abbrev pub changed : List CountedRow → ObjId → (CountedRow → CountedRow) �
 changed rows o change = map (λ c. cond (is_named o c) (change c) c) rows
 
 -- field k of o is v: in its place, or last
-abbrev pub with_field : List CountedRow → ObjId → Key → Value → List CountedRow
-with_field rows o k v = changed rows o (λ c. with_fields (put_field (c.row).fields k v) c)
+abbrev pub with_field_of : List CountedRow → ObjId → Key → Value → List CountedRow
+with_field_of rows o k v = changed rows o (λ c. with_fields (put_field (c.row).fields k v) c)
 
 -- field k of o is gone, and later ones close up
-abbrev pub without_field : List CountedRow → ObjId → Key → List CountedRow
-without_field rows o k = changed rows o (λ c. with_fields (drop_field (c.row).fields k) c)
+abbrev pub without_field_of : List CountedRow → ObjId → Key → List CountedRow
+without_field_of rows o k = changed rows o (λ c. with_fields (drop_field (c.row).fields k) c)
 
 -- o counts one edge more
 abbrev pub raised : List CountedRow → ObjId → List CountedRow
@@ -46,8 +46,8 @@ abbrev pub lowered : List CountedRow → ObjId → List CountedRow
 lowered rows o = changed rows o (λ c. with_refs (c.refs - 1) c)
 
 -- a new row comes last
-abbrev pub with_row : List CountedRow → ObjId → Owner → List CountedRow
-with_row rows o w = rows ++ new_row o w ∷ []
+abbrev pub with_new_row : List CountedRow → ObjId → Owner → List CountedRow
+with_new_row rows o w = rows ++ new_row o w ∷ []
 
 -- the row of that name is gone
 abbrev pub without_row : List CountedRow → ObjId → List CountedRow
@@ -59,14 +59,10 @@ without_rows rows [] = rows
 without_rows rows (o ∷ os) = without_rows (without_row rows o) os
 
 -- a row under another owner, where there is one
-abbrev pub under : Owner → Option CountedRow → List CountedRow
-under w None = []
-under w (Some c) = with_owner w c ∷ []
+abbrev pub moved_under : Owner → Option CountedRow → List CountedRow
+moved_under w None = []
+moved_under w (Some c) = with_owner w c ∷ []
 
 -- the row of that name comes last under its new owner
 abbrev pub moved_last : List CountedRow → ObjId → Owner → List CountedRow
-moved_last rows o w = without_row rows o ++ under w (row_named rows o)
-
--- the rows of a state with field k of x taken out
-abbrev pub take_fields : List Row → ObjId → Key → List Row
-take_fields rows x k = map (λ r. cond (is_at x r) (record r { fields = drop_field r.fields k }) r) rows
+moved_last rows o w = without_row rows o ++ moved_under w (row_named rows o)

@@ -85,8 +85,8 @@ abbrev pub refs_at : List CountedRow → ObjId → ℕ
 refs_at rows o = refs_by (row_named rows o)
 
 -- the value of a field of the row of that name
-abbrev pub value_at : List CountedRow → ObjId → Key → Option Value
-value_at rows o k = field_at (fields_at rows o) k
+abbrev pub field_value_at : List CountedRow → ObjId → Key → Option Value
+field_value_at rows o k = field_at (fields_at rows o) k
 
 -- the name of the first row
 abbrev pub first_name : List CountedRow → Option ObjId
@@ -113,10 +113,10 @@ abbrev pub rows_beside : List CountedRow → ObjId → List CountedRow
 rows_beside rows o = rows_of_maybe (owner_at rows o) rows
 
 -- the rows by rising name
-abbrev pub by_name : List Row → List Row
-by_name rows = insert_rows rows []
+abbrev pub rows_by_name : List Row → List Row
+rows_by_name rows = insert_rows rows []
 
 -- a store with these rows is that of a state with those rows
 pub record AreRowsOf (rows : List CountedRow) (state_rows : List Row) : Type 0 where
   pub differ : NamesDiffer rows
-  pub rise : by_name (plain rows) ≡ state_rows
+  pub rise : rows_by_name (plain rows) ≡ state_rows

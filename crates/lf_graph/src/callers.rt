@@ -1,20 +1,22 @@
 //! Callers that know a store by its trait alone. Each is proved for every store.
 
-ghost use Rattle.std.specs.Prelude.{◌≡◌, ◌≢◌, ◌+◌, ◌^◌, ◌-◌, ◌<◌, ◌↔◌, ◌∷◌, [], false, is_some, option_map, slice_get, IfErr, IfOk, IsTrue, OnErr, OnOk};
+ghost use Rattle.std.specs.Prelude.{◌≡◌, ◌≢◌, ◌+◌, ◌^◌, ◌-◌, ◌<◌, ◌↔◌, ◌∷◌, [], false, is_some, option_map, slice_get, IfErr, IfOk};
+ghost use Rattle.std.specs.Prelude.{IsTrue, OnErr, OnOk};
 ghost use Rattle.std.specs.Bool.{OnFalse, OnTrue};
 ghost use Rattle.lf_base.specs.declared.values.Owner.TheVariants.{In};
 ghost use Rattle.lf_base.specs.Names.{same_name};
 ghost use Rattle.lf_graph.specs.Parts.{IsLeft};
 ghost use Rattle.lf_graph.specs.Room.{LowersNone, LowersOwnerOf};
-ghost use Rattle.lf_graph.specs.RowChanges.{lowered, moved_last, new_row, raised, with_field, without_field, without_row};
-ghost use Rattle.lf_graph.specs.StoredRows.{HasRow, NamesDiffer, SameByOwner, fields_at, fields_by, first_name, owner_at, refs_at, rows_of, two_names, value_at};
+ghost use Rattle.lf_graph.specs.RowChanges.{lowered, moved_last, new_row, raised, with_field_of, without_field_of, without_row};
+ghost use Rattle.lf_graph.specs.StoredRows.{HasRow, NamesDiffer, SameByOwner, field_value_at, fields_at, fields_by, first_name};
+ghost use Rattle.lf_graph.specs.StoredRows.{owner_at, refs_at, rows_of, two_names};
 
 use crate::store::Store;
 use lf_base::{Fields, Key, ObjId, OutOfMemory, Owner, Steps, Value};
 use std::alloc::Global;
 use std::sync::ledger::Ledger;
 
-/// A store with one row. `OutOfMemory` comes only where memory runs out.
+/// A store with one row. `OutOfMemory` comes where `new` or `reserve` has it.
 pub fn store_of_one<S: Store, L: Ledger>(
     alloc: Global,
     o: ObjId,
@@ -51,7 +53,7 @@ pub fn has_row<S: Store, L: Ledger>(store: &S, o: ObjId, steps: &mut Steps<L>) -
     store.owner(o, steps).is_some()
 }
 
-/// A copy of a row's fields. `OutOfMemory` comes only where memory runs out.
+/// A copy of a row's fields, or `OutOfMemory`.
 pub fn copy_fields<S: Store, L: Ledger>(
     alloc: Global,
     store: &S,
@@ -84,8 +86,8 @@ pub fn replace_field<S: Store, L: Ledger>(
     steps: &mut Steps<L>,
 ) -> bool
     requires there { HasRow (S.rows store.old) o }
-    ensures there { result ≡ is_some (value_at (S.rows store.old) o key) }
-    ensures replaced { OnTrue result (SameByOwner (S.rows store.new) (with_field (S.rows store.old) o key v)) }
+    ensures there { result ≡ is_some (field_value_at (S.rows store.old) o key) }
+    ensures replaced { OnTrue result (SameByOwner (S.rows store.new) (with_field_of (S.rows store.old) o key v)) }
     ensures unchanged { OnFalse result (SameByOwner (S.rows store.new) (S.rows store.old)) }
     ensures room { LowersNone (S.spare store.old) (S.spare store.new) }
 {
@@ -99,7 +101,7 @@ pub fn replace_field<S: Store, L: Ledger>(
 /// Drops a field.
 pub fn drop_field<S: Store, L: Ledger>(store: &mut S, o: ObjId, key: Key, steps: &mut Steps<L>)
     requires there { HasRow (S.rows store.old) o }
-    ensures rows { SameByOwner (S.rows store.new) (without_field (S.rows store.old) o key) }
+    ensures rows { SameByOwner (S.rows store.new) (without_field_of (S.rows store.old) o key) }
     ensures room { LowersNone (S.spare store.old) (S.spare store.new) }
 {
     let _ = store.take_field(o, key, steps);
@@ -164,7 +166,8 @@ pub fn out_and_in<S: Store>(
 ) -> Result<(), (Option<S::Part>, OutOfMemory)>
     requires differ { NamesDiffer (S.rows store.old) }
     ensures back { OnOk result (SameByOwner (S.rows store.new) (S.rows store.old)) }
-    ensures left { IfErr result (λ refused. IsLeft (option_map (λ part. S.part_rows part) refused.0) (In region) (S.rows store.old) (S.rows store.new)) }
+    ensures left { IfErr result (λ refused.
+        IsLeft (option_map (λ part. S.part_rows part) refused.0) (In region) (S.rows store.old) (S.rows store.new)) }
 {
     let part = match store.part_out(region) {
         Ok(part) => part,

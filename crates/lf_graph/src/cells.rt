@@ -2,14 +2,16 @@
 //! linked in their order. What is kept of a row's fields, `FieldEnds`, the caller keeps
 //! with the row.
 
-ghost use Rattle.std.specs.Prelude.{◌≡◌, ◌<◌, ◌≤◌, ◌+◌, ◌++◌, ◌∷◌, [], List, None, Some, IfOk, IsSome, OnOk, Option, slice_get, length, map};
+ghost use Rattle.std.specs.Prelude.{◌≡◌, ◌<◌, ◌≤◌, ◌+◌, ◌++◌, ◌∷◌, [], List, None, Some, IfOk, IsSome, OnOk, Option, slice_get};
+ghost use Rattle.std.specs.Prelude.{length, map};
 ghost use Rattle.lf_base.specs.declared.ids.ObjId.{ObjId};
 ghost use Rattle.lf_base.specs.declared.values.Key.{Key};
-ghost use Rattle.lf_base.specs.Links.{Differ, after, next_from, to_next, to_prev, without};
+ghost use Rattle.lf_base.specs.Links.{NodesDiffer, after, next_from, to_next, to_prev, without};
 ghost use Rattle.lf_base.specs.Names.{same_key};
 ghost use Rattle.lf_graph.specs.declared.cells.Cell.{Cell};
 ghost use Rattle.lf_graph.specs.declared.cells.FieldEnds.{FieldEnds};
-ghost use Rattle.lf_graph.specs.Cells.{CopiesField, DropsCell, IsFieldList, OnlyCellAt, OnlyValueAt, OthersStay, RelinksField, cells_of, ends_with, ends_without, link_of, pairs, room};
+ghost use Rattle.lf_graph.specs.Cells.{CopiesField, DropsCell, IsFieldList, KeysBecome, OnlyCellAt, OnlyValueAt, OthersStay};
+ghost use Rattle.lf_graph.specs.Cells.{RelinksField, cells_of, cells_room, field_ends_with, field_ends_without, link_of, pairs};
 
 use lf_base::{Fields, Key, Link, ObjId, OutOfMemory, Value};
 use std::alloc::Global;
@@ -61,7 +63,7 @@ impl FieldEnds {
     // The key is the last one now.
     fn with_last(self, key: Key) -> FieldEnds
         requires { self.width < u32.MAX }
-        ensures { result ≡ ends_with key self }
+        ensures { result ≡ field_ends_with key self }
     {
         FieldEnds {
             first: self.first.or(Some(key)),
@@ -73,7 +75,7 @@ impl FieldEnds {
     // The key of that link is no key of the row any more.
     fn without(self, link: Link<Key>) -> FieldEnds
         requires { 0 < self.width }
-        ensures { result ≡ ends_without link self }
+        ensures { result ≡ field_ends_without link self }
     {
         FieldEnds {
             first: if link.prev.is_some() {
@@ -101,12 +103,12 @@ impl Cells {
         }
     }
 
-    /// Makes room for so many more cells. After `OutOfMemory`, which comes where memory
-    /// runs out or the table may not have so many cells, the cells are as before.
+    /// Makes room for so many more cells. After `OutOfMemory` too the cells are
+    /// as before, and there is no less room.
     pub fn reserve(&mut self, more: usize) -> Result<(), OutOfMemory>
         ensures cells { (o : ObjId) → (k : Key) → cells_of self.new o k ≡ cells_of self.old o k }
-        ensures enough { OnOk result (more ≤ room self.new) }
-        ensures room { room self.old ≤ room self.new }
+        ensures enough { OnOk result (more ≤ cells_room self.new) }
+        ensures room { cells_room self.old ≤ cells_room self.new }
     {
         if more > MOST_CELLS.saturating_sub(self.cells.len()) {
             return Err(OutOfMemory);
@@ -126,9 +128,9 @@ impl Cells {
 
     // Puts a cell where there is room.
     fn put(&mut self, o: ObjId, key: Key, cell: Cell)
-        requires { 0 < room self.old }
+        requires { 0 < cells_room self.old }
         ensures cells { OnlyCellAt (cells_of self.old) (cells_of self.new) o key (λ _. Some cell) }
-        ensures room { room self.old ≤ room self.new + 1 }
+        ensures room { cells_room self.old ≤ cells_room self.new + 1 }
     {
         match self.cells.insert(FieldName { row: o, key }, cell) {
             Ok(_old) => {}
@@ -140,14 +142,14 @@ impl Cells {
     fn remove(&mut self, o: ObjId, key: Key) -> Option<Cell>
         ensures cell { result ≡ cells_of self.old o key }
         ensures cells { OnlyCellAt (cells_of self.old) (cells_of self.new) o key (λ _. None) }
-        ensures room { room self.old ≤ room self.new }
+        ensures room { cells_room self.old ≤ cells_room self.new }
     {
         self.cells.remove(&FieldName { row: o, key })
     }
 
     fn set_next(&mut self, o: ObjId, at: Option<Key>, next: Option<Key>)
         ensures cells { RelinksField (cells_of self.old) (cells_of self.new) o at (to_next next) }
-        ensures room { room self.new ≡ room self.old }
+        ensures room { cells_room self.new ≡ cells_room self.old }
     {
         if let Some(key) = at {
             if let Some(cell) = self.cells.get_mut(&FieldName { row: o, key }) {
@@ -158,7 +160,7 @@ impl Cells {
 
     fn set_prev(&mut self, o: ObjId, at: Option<Key>, prev: Option<Key>)
         ensures cells { RelinksField (cells_of self.old) (cells_of self.new) o at (to_prev prev) }
-        ensures room { room self.new ≡ room self.old }
+        ensures room { cells_room self.new ≡ cells_room self.old }
     {
         if let Some(key) = at {
             if let Some(cell) = self.cells.get_mut(&FieldName { row: o, key }) {
@@ -170,10 +172,10 @@ impl Cells {
     /// Replaces the value of a cell that is there, which keeps its place.
     pub fn set_value(&mut self, o: ObjId, key: Key, value: Value)
         requires there { IsSome (cells_of self.old o key) }
-        ensures lists { (ends : FieldEnds) → (keys : List Key) → IsFieldList (cells_of self.old) o ends keys → IsFieldList (cells_of self.new) o ends keys }
+        ensures lists { (ends : FieldEnds) → KeysBecome (cells_of self.old) (cells_of self.new) o ends ends (λ keys. keys) }
         ensures value { OnlyValueAt (cells_of self.old) (cells_of self.new) o key (Some value) }
         ensures others { OthersStay (cells_of self.old) (cells_of self.new) o }
-        ensures room { room self.new ≡ room self.old }
+        ensures room { cells_room self.new ≡ cells_room self.old }
     {
         if let Some(cell) = self.cells.get_mut(&FieldName { row: o, key }) {
             cell.value = value;
@@ -184,11 +186,11 @@ impl Cells {
     pub fn push_last(&mut self, o: ObjId, ends: FieldEnds, key: Key, value: Value) -> FieldEnds
         requires list { (keys : List Key) × IsFieldList (cells_of self.old) o ends keys }
         requires new { cells_of self.old o key ≡ None }
-        requires room { 0 < room self.old }
-        ensures lists { (keys : List Key) → IsFieldList (cells_of self.old) o ends keys → IsFieldList (cells_of self.new) o result (keys ++ key ∷ []) }
+        requires room { 0 < cells_room self.old }
+        ensures lists { KeysBecome (cells_of self.old) (cells_of self.new) o ends result (λ keys. keys ++ key ∷ []) }
         ensures value { OnlyValueAt (cells_of self.old) (cells_of self.new) o key (Some value) }
         ensures others { OthersStay (cells_of self.old) (cells_of self.new) o }
-        ensures room { room self.old ≤ room self.new + 1 }
+        ensures room { cells_room self.old ≤ cells_room self.new + 1 }
     {
         self.set_next(o, ends.last, Some(key));
         let link = Link {
@@ -204,10 +206,10 @@ impl Cells {
     pub fn unlink(&mut self, o: ObjId, ends: FieldEnds, key: Key) -> FieldEnds
         requires list { (keys : List Key) × IsFieldList (cells_of self.old) o ends keys }
         requires there { IsSome (cells_of self.old o key) }
-        ensures lists { (keys : List Key) → IsFieldList (cells_of self.old) o ends keys → IsFieldList (cells_of self.new) o result (without same_key key keys) }
+        ensures lists { KeysBecome (cells_of self.old) (cells_of self.new) o ends result (without same_key key) }
         ensures value { OnlyValueAt (cells_of self.old) (cells_of self.new) o key None }
         ensures others { OthersStay (cells_of self.old) (cells_of self.new) o }
-        ensures room { room self.old ≤ room self.new }
+        ensures room { cells_room self.old ≤ cells_room self.new }
     {
         let Some(cell) = self.remove(o, key) else {
             unreachable!()
@@ -230,7 +232,8 @@ impl Cells {
     /// The field at a place of a row's fields, counted from 0; `None` past the end. It
     /// walks from the first field to it.
     pub fn at(&self, o: ObjId, ends: FieldEnds, at: u32) -> Option<(Key, Value)>
-        ensures { (keys : List Key) → IsFieldList (cells_of self.now) o ends keys → result ≡ slice_get (pairs (cells_of self.now) o keys) at }
+        ensures { (keys : List Key) → IsFieldList (cells_of self.now) o ends keys
+            → result ≡ slice_get (pairs (cells_of self.now) o keys) at }
     {
         if at >= ends.width {
             return None;
@@ -279,9 +282,10 @@ impl Cells {
         }
     }
 
-    /// A copy of a row's fields. `OutOfMemory` comes only where memory runs out.
+    /// A copy of a row's fields, or `OutOfMemory`.
     pub fn copied(&self, alloc: Global, o: ObjId, ends: FieldEnds) -> Result<Fields, OutOfMemory>
-        ensures { IfOk result (λ fields. (keys : List Key) → IsFieldList (cells_of self.now) o ends keys → fields ≡ pairs (cells_of self.now) o keys) }
+        ensures { IfOk result (λ fields. (keys : List Key) → IsFieldList (cells_of self.now) o ends keys
+            → fields ≡ pairs (cells_of self.now) o keys) }
     {
         let mut fields = Fields::new(alloc);
         let mut key = ends.first;
@@ -295,12 +299,12 @@ impl Cells {
     /// kept of them.
     pub fn put_all(&mut self, o: ObjId, fields: &[(Key, Value)]) -> FieldEnds
         requires none { (k : Key) → cells_of self.old o k ≡ None }
-        requires differ { Differ same_key (map (λ f. f.0) fields.now) }
-        requires room { length fields.now ≤ room self.old }
+        requires differ { NodesDiffer same_key (map (λ f. f.0) fields.now) }
+        requires room { length fields.now ≤ cells_room self.old }
         ensures list { IsFieldList (cells_of self.new) o result (map (λ f. f.0) fields.now) }
         ensures fields { pairs (cells_of self.new) o (map (λ f. f.0) fields.now) ≡ fields.now }
         ensures others { OthersStay (cells_of self.old) (cells_of self.new) o }
-        ensures room { room self.old ≤ room self.new + length fields.now }
+        ensures room { cells_room self.old ≤ cells_room self.new + length fields.now }
     {
         let mut ends = FieldEnds::empty();
         for field in fields {
@@ -313,7 +317,7 @@ impl Cells {
     pub fn clear(&mut self, o: ObjId, ends: FieldEnds)
         ensures cells { (keys : List Key) → IsFieldList (cells_of self.old) o ends keys → (k : Key) → cells_of self.new o k ≡ None }
         ensures others { OthersStay (cells_of self.old) (cells_of self.new) o }
-        ensures room { room self.old ≤ room self.new }
+        ensures room { cells_room self.old ≤ cells_room self.new }
     {
         let mut first = ends.first;
         for _turn in 0..ends.width {
@@ -325,7 +329,7 @@ impl Cells {
     fn drop_first(&mut self, o: ObjId, first: Option<Key>) -> Option<Key>
         ensures next { result ≡ next_from (link_of (cells_of self.old) o) first }
         ensures cells { DropsCell (cells_of self.old) (cells_of self.new) o first }
-        ensures room { room self.old ≤ room self.new }
+        ensures room { cells_room self.old ≤ cells_room self.new }
     {
         self.remove(o, first?)?.link.next
     }

@@ -4,9 +4,10 @@
 ghost use Rattle.std.specs.Prelude.{◌≡◌, ◌<◌, ◌≤◌, ◌+◌, [], List, None, Some, IfSome, IsSome, OnOk};
 ghost use Rattle.lf_base.specs.declared.ids.ObjId.{ObjId};
 ghost use Rattle.lf_base.specs.declared.values.Owner.{Owner};
-ghost use Rattle.lf_base.specs.Links.{head_or};
-ghost use Rattle.lf_graph.specs.ChainMaps.{ends_of, ends_room, heads_of, room_of};
-ghost use Rattle.lf_graph.specs.Chains.{AreChains, OnlyStoredAt, RelinksNext, RelinksPrev, after, left_without, owner_at, pushed, row_at};
+ghost use Rattle.lf_base.specs.Links.{after, head_or};
+ghost use Rattle.lf_base.specs.Names.{same_name};
+ghost use Rattle.lf_graph.specs.ChainMaps.{HasLists, ListsBecome, ends_room, heads_of, room_of};
+ghost use Rattle.lf_graph.specs.Chains.{OnlyStoredAt, RelinksNext, RelinksPrev, left_without, linked_owner_at, linked_row_at, pushed};
 
 use crate::owner_ends::OwnerEnds;
 use crate::row_table::RowTable;
@@ -49,7 +50,7 @@ impl Chains {
     /// A table without rows. It takes no memory.
     pub fn new(alloc: Global) -> Chains
         ensures rows { (o : ObjId) → heads_of result.rows o ≡ None }
-        ensures lists { AreChains (heads_of result.rows) (ends_of result.ends) (λ _. []) }
+        ensures lists { HasLists result (λ _. []) }
     {
         Chains {
             rows: RowTable::new(alloc),
@@ -57,11 +58,11 @@ impl Chains {
         }
     }
 
-    /// Makes room for so many more rows. After `OutOfMemory`, which comes where memory
-    /// runs out, the rows are as before.
+    /// Makes room for so many more rows. After `OutOfMemory` too the rows are
+    /// as before, and there is no less room.
     pub fn reserve(&mut self, more: usize) -> Result<(), OutOfMemory>
-        ensures rows { (o : ObjId) → row_at (heads_of self.new.rows) o ≡ row_at (heads_of self.old.rows) o }
-        ensures lists { (lists : Owner → List ObjId) → AreChains (heads_of self.old.rows) (ends_of self.old.ends) lists → AreChains (heads_of self.new.rows) (ends_of self.new.ends) lists }
+        ensures rows { (o : ObjId) → linked_row_at (heads_of self.new.rows) o ≡ linked_row_at (heads_of self.old.rows) o }
+        ensures lists { ListsBecome self.old self.new (λ lists. lists) }
         ensures rows_enough { OnOk result (more ≤ room_of self.new.rows) }
         ensures ends_enough { OnOk result (more ≤ ends_room self.new.ends) }
         ensures rows_room { room_of self.old.rows ≤ room_of self.new.rows }
@@ -73,7 +74,7 @@ impl Chains {
 
     /// A row, where there is one of that name.
     pub fn get(&self, o: ObjId) -> Option<StoredRow>
-        ensures row { result ≡ row_at (heads_of self.now.rows) o }
+        ensures row { result ≡ linked_row_at (heads_of self.now.rows) o }
         ensures named { IfSome result (λ row. row.name ≡ o) }
     {
         let head = self.rows.get(o)?;
@@ -82,8 +83,8 @@ impl Chains {
 
     /// A row that is there.
     pub fn row(&self, o: ObjId) -> StoredRow
-        requires { IsSome (row_at (heads_of self.now.rows) o) }
-        ensures row { row_at (heads_of self.now.rows) o ≡ Some result }
+        requires { IsSome (linked_row_at (heads_of self.now.rows) o) }
+        ensures row { linked_row_at (heads_of self.now.rows) o ≡ Some result }
         ensures named { result.name ≡ o }
     {
         let Some(row) = self.get(o) else {
@@ -94,7 +95,7 @@ impl Chains {
 
     /// The first row of an owner.
     pub fn first(&self, owner: Owner) -> Option<ObjId>
-        ensures { (lists : Owner → List ObjId) → AreChains (heads_of self.now.rows) (ends_of self.now.ends) lists → result ≡ head_or (lists owner) None }
+        ensures { (lists : Owner → List ObjId) → HasLists self.now lists → result ≡ head_or (lists owner) None }
     {
         match self.ends.get(owner) {
             Some(ends) => Some(ends.first),
@@ -104,7 +105,8 @@ impl Chains {
 
     /// The row after a row under its owner.
     pub fn next(&self, o: ObjId) -> Option<ObjId>
-        ensures { (lists : Owner → List ObjId) → AreChains (heads_of self.now.rows) (ends_of self.now.ends) lists → (w : Owner) → owner_at (heads_of self.now.rows) o ≡ Some w → result ≡ after o (lists w) }
+        ensures { (lists : Owner → List ObjId) → HasLists self.now lists
+            → (w : Owner) → linked_owner_at (heads_of self.now.rows) o ≡ Some w → result ≡ after same_name o (lists w) }
     {
         match self.rows.get(o) {
             Some(head) => head.link.next,
@@ -114,8 +116,8 @@ impl Chains {
 
     /// Replaces a row that is there by one of the same name and owner.
     pub fn set(&mut self, row: StoredRow)
-        requires there { owner_at (heads_of self.old.rows) row.name ≡ Some row.owner }
-        ensures lists { (lists : Owner → List ObjId) → AreChains (heads_of self.old.rows) (ends_of self.old.ends) lists → AreChains (heads_of self.new.rows) (ends_of self.new.ends) lists }
+        requires there { linked_owner_at (heads_of self.old.rows) row.name ≡ Some row.owner }
+        ensures lists { ListsBecome self.old self.new (λ lists. lists) }
         ensures rows { OnlyStoredAt (heads_of self.old.rows) (heads_of self.new.rows) row.name (Some row) }
         ensures rows_room { room_of self.new.rows ≡ room_of self.old.rows }
         ensures ends_room { ends_room self.new.ends ≡ ends_room self.old.ends }
@@ -127,10 +129,10 @@ impl Chains {
 
     /// Puts a new row last under its owner.
     pub fn push_last(&mut self, row: StoredRow)
-        requires new { row_at (heads_of self.old.rows) row.name ≡ None }
+        requires new { linked_row_at (heads_of self.old.rows) row.name ≡ None }
         requires rows_room { 0 < room_of self.old.rows }
         requires ends_room { 0 < ends_room self.old.ends }
-        ensures lists { (lists : Owner → List ObjId) → AreChains (heads_of self.old.rows) (ends_of self.old.ends) lists → AreChains (heads_of self.new.rows) (ends_of self.new.ends) (pushed lists row.owner row.name) }
+        ensures lists { ListsBecome self.old self.new (λ lists. pushed lists row.owner row.name) }
         ensures rows { OnlyStoredAt (heads_of self.old.rows) (heads_of self.new.rows) row.name (Some row) }
         ensures rows_room { room_of self.old.rows ≤ room_of self.new.rows + 1 }
         ensures ends_room { ends_room self.old.ends ≤ ends_room self.new.ends + 1 }
@@ -147,10 +149,10 @@ impl Chains {
 
     /// Takes a row out of its owner's list.
     pub fn unlink(&mut self, o: ObjId) -> StoredRow
-        requires there { IsSome (row_at (heads_of self.old.rows) o) }
-        ensures row { Some result ≡ row_at (heads_of self.old.rows) o }
+        requires there { IsSome (linked_row_at (heads_of self.old.rows) o) }
+        ensures row { Some result ≡ linked_row_at (heads_of self.old.rows) o }
         ensures named { result.name ≡ o }
-        ensures lists { (lists : Owner → List ObjId) → AreChains (heads_of self.old.rows) (ends_of self.old.ends) lists → AreChains (heads_of self.new.rows) (ends_of self.new.ends) (left_without lists o) }
+        ensures lists { ListsBecome self.old self.new (λ lists. left_without lists o) }
         ensures rows { OnlyStoredAt (heads_of self.old.rows) (heads_of self.new.rows) o None }
         ensures rows_room { room_of self.old.rows ≤ room_of self.new.rows }
         ensures ends_room { ends_room self.old.ends ≤ ends_room self.new.ends }

@@ -5,7 +5,7 @@ ghost use Rattle.lf_graph.specs.FlatParts.{CopiesRow, IsPart, IsPartRow, part_ce
 ghost use Rattle.lf_graph.specs.FlatRows.{IsFlat, rows_under};
 ghost use Rattle.lf_graph.specs.Cells.{cells_of};
 ghost use Rattle.lf_graph.specs.ChainMaps.{heads_of};
-ghost use Rattle.lf_graph.specs.Chains.{row_at};
+ghost use Rattle.lf_graph.specs.Chains.{linked_row_at};
 ghost use Rattle.lf_graph.specs.Parts.{row_head};
 ghost use Rattle.lf_graph.specs.StoredRows.{fields_by};
 
@@ -51,7 +51,7 @@ fn copied_row(
     o: ObjId,
 ) -> Result<PartRow, OutOfMemory>
     requires flat { IsFlat chains.now cells.now }
-    requires there { IsSome (row_at (heads_of chains.now.rows) o) }
+    requires there { IsSome (linked_row_at (heads_of chains.now.rows) o) }
     ensures copy { IfOk result (λ row. CopiesRow (heads_of chains.now.rows) (cells_of cells.now) o row) }
     ensures part { IfOk result IsPartRow }
 {
@@ -130,7 +130,7 @@ fn field_at(rows: &[PartRow], at: usize, field: usize) -> Option<(Key, Value)>
 }
 
 impl FlatPart {
-    /// A copy of the rows of a region. `OutOfMemory` comes only where memory runs out.
+    /// A copy of the rows of a region, or `OutOfMemory`.
     pub fn copied(
         alloc: Global,
         chains: &Chains,

@@ -4,8 +4,8 @@
 ghost use Rattle.std.specs.Prelude.{◌≡◌, ◌+◌, ◌≤◌, ◌++◌, ◌∷◌, [], None, IfSome, IsSome, OnOk, length, map};
 ghost use Rattle.lf_graph.specs.FlatParts.{IsPart, IsPartRow, part_row, rows_cells};
 ghost use Rattle.lf_graph.specs.Parts.{AllNew};
-ghost use Rattle.lf_graph.specs.RowChanges.{with_field, without_row, without_rows};
-ghost use Rattle.lf_graph.specs.StoredRows.{HasRow, IsNewName, SameByOwner, value_at};
+ghost use Rattle.lf_graph.specs.RowChanges.{with_field_of, without_row, without_rows};
+ghost use Rattle.lf_graph.specs.StoredRows.{HasRow, IsNewName, SameByOwner, field_value_at};
 
 use crate::cells::{Cells, FieldEnds};
 use crate::chains::Chains;
@@ -39,9 +39,9 @@ impl FlatStore {
     // Gives a row a field that it hasn't.
     fn add_field(&mut self, o: ObjId, key: Key, v: Value)
         requires there { HasRow self.old.rows o }
-        requires new { value_at self.old.rows o key ≡ None }
+        requires new { field_value_at self.old.rows o key ≡ None }
         requires room { 1 ≤ self.old.spare }
-        ensures rows { SameByOwner self.new.rows (with_field self.old.rows o key v) }
+        ensures rows { SameByOwner self.new.rows (with_field_of self.old.rows o key v) }
         ensures room { self.old.spare ≤ self.new.spare + 1 }
     {
         let row = self.chains.row(o);

@@ -9,7 +9,6 @@
 //! `FlatStore` meets the contract: one table of rows, linked under their owners in their
 //! order, and one of fields, linked in their rows. Each of its calls looks at one row and
 //! its neighbours; only what goes over a row's fields or a region's rows walks them.
-//! `trials` has calls that ask for nothing, for tests and measurements.
 #![tactic(auto)]
 
 pub mod callers;
@@ -24,11 +23,7 @@ mod region_ends;
 mod row_table;
 mod store;
 mod stored_row;
-pub mod trials;
 
 pub use flat_part::FlatPart;
 pub use flat_store::FlatStore;
 pub use store::{RowHead, Store};
-
-#[cfg(test)]
-mod tests;

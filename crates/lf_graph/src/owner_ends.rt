@@ -2,7 +2,7 @@ ghost use Rattle.std.specs.Prelude.{◌≡◌, ◌<◌, ◌≤◌, ◌+◌, None
 ghost use Rattle.std.specs.Option.{option_map};
 ghost use Rattle.lf_base.specs.declared.values.Owner.{Owner};
 ghost use Rattle.lf_graph.specs.ChainMaps.{ends_of, ends_room};
-ghost use Rattle.lf_graph.specs.Chains.{OnlyEndsOf, ends_with, ends_without};
+ghost use Rattle.lf_graph.specs.Chains.{OnlyEndsOf, owner_ends_with, owner_ends_without};
 
 use crate::ends::Ends;
 use crate::region_ends::RegionEnds;
@@ -94,7 +94,7 @@ impl OwnerEnds {
     // The row is the owner's last one now.
     pub fn add(&mut self, owner: Owner, o: ObjId)
         requires { 0 < ends_room self.old }
-        ensures ends { OnlyEndsOf (ends_of self.old) (ends_of self.new) owner (ends_with o (ends_of self.old owner)) }
+        ensures ends { OnlyEndsOf (ends_of self.old) (ends_of self.new) owner (owner_ends_with o (ends_of self.old owner)) }
         ensures room { ends_room self.old ≤ ends_room self.new + 1 }
     {
         let ends = match self.get(owner) {
@@ -109,7 +109,7 @@ impl OwnerEnds {
 
     // The row between these two is no row of the owner any more.
     pub fn cut(&mut self, owner: Owner, prev: Option<ObjId>, next: Option<ObjId>)
-        ensures ends { OnlyEndsOf (ends_of self.old) (ends_of self.new) owner (ends_without prev next (ends_of self.old owner)) }
+        ensures ends { OnlyEndsOf (ends_of self.old) (ends_of self.new) owner (owner_ends_without prev next (ends_of self.old owner)) }
         ensures room { ends_room self.old ≤ ends_room self.new }
     {
         let Some(Ends { first, last }) = self.get(owner) else {

@@ -1,9 +1,10 @@
 ghost use Rattle.std.specs.Prelude.{◌≡◌, ◌<◌, ◌≤◌, ◌+◌, None, Some, IfSome, IsSome, OnOk, if◌then◌else◌};
-ghost use Rattle.std.specs.HashMap.{spare};
+ghost use Rattle.slab.specs.Slab.{slab_len};
+ghost use Rattle.std.specs.HashMap.{hash_map_len, spare};
 ghost use Rattle.lf_base.specs.Names.{same_name};
 ghost use Rattle.lf_base.specs.declared.ids.ObjId.{ObjId};
 ghost use Rattle.lf_graph.specs.Chains.{OnlyRowAt};
-ghost use Rattle.lf_graph.specs.RowTables.{Leads, heads_in, key_of, row_room};
+ghost use Rattle.lf_graph.specs.RowTables.{NamesLeadToRows, heads_in, row_room, slab_key_of};
 
 use crate::stored_row::Linked;
 use lf_base::{ObjId, OutOfMemory};
@@ -11,19 +12,22 @@ use slab::Slab;
 use std::alloc::Global;
 use std::collections::HashMap;
 
-/// The rows by name: a slab of rows with their neighbours, and the key of each name.
+/// The rows by name: a slab of rows with their neighbours, and the key of each name. The
+/// slab has no row but those that a name leads to.
 #[derive(Drop)]
 pub struct RowTable {
     rows: Slab<Linked>,
     index: HashMap<ObjId, usize>,
-    ghost leads: { Leads rows index },
+    ghost leads: { NamesLeadToRows rows index },
+    ghost count: { slab_len rows ≡ hash_map_len index },
 }
 
 // Enters the key of a name.
 fn enter(index: &mut HashMap<ObjId, usize>, o: ObjId, key: usize)
     requires { 0 < spare index.old }
-    ensures keys { (q : ObjId) → key_of index.new q ≡ (if same_name o q then Some key else key_of index.old q) }
+    ensures keys { (q : ObjId) → slab_key_of index.new q ≡ (if same_name o q then Some key else slab_key_of index.old q) }
     ensures room { spare index.old ≤ spare index.new + 1 }
+    ensures count { slab_key_of index.old o ≡ None → hash_map_len index.new ≡ hash_map_len index.old + 1 }
 {
     match index.insert(o, key) {
         Ok(_old) => {}
@@ -42,8 +46,8 @@ impl RowTable {
         }
     }
 
-    /// Makes room for so many more rows. After `OutOfMemory`, which comes where memory
-    /// runs out, the rows are as before.
+    /// Makes room for so many more rows. After `OutOfMemory` too the rows are
+    /// as before, and there is no less room.
     pub fn reserve(&mut self, more: usize) -> Result<(), OutOfMemory>
         ensures rows { (o : ObjId) → heads_in self.new.rows self.new.index o ≡ heads_in self.old.rows self.old.index o }
         ensures enough { OnOk result (more ≤ row_room self.new.rows self.new.index) }

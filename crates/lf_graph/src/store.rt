@@ -5,8 +5,9 @@ ghost use Rattle.lf_base.specs.declared.values.Owner.{Owner};
 ghost use Rattle.lf_base.specs.declared.values.Owner.TheVariants.{In};
 ghost use Rattle.lf_graph.specs.Parts.{AllNew, row_head};
 ghost use Rattle.lf_graph.specs.Room.{LowersAtMost, LowersNone, LowersOwnerOf, OwnerHasRoom, room_for_field, room_for_row};
-ghost use Rattle.lf_graph.specs.RowChanges.{lowered, moved_last, raised, with_field, with_row, without_field, without_row};
-ghost use Rattle.lf_graph.specs.StoredRows.{CountedRow, HasRow, IsNewName, SameByOwner, fields_at, fields_by, first_name, name_after, owner_at, refs_at, rows_beside, rows_of, rows_outside, value_at};
+ghost use Rattle.lf_graph.specs.RowChanges.{lowered, moved_last, raised, with_field_of, with_new_row, without_field_of, without_row};
+ghost use Rattle.lf_graph.specs.StoredRows.{CountedRow, HasRow, IsNewName, SameByOwner, field_value_at, fields_at, fields_by};
+ghost use Rattle.lf_graph.specs.StoredRows.{first_name, name_after, owner_at, refs_at, rows_beside, rows_of, rows_outside};
 
 use lf_base::{Key, ObjId, OutOfMemory, Owner, Steps, Value};
 use std::alloc::Global;
@@ -26,8 +27,9 @@ pub struct RowHead {
 ///
 /// Under each owner there is room for more, `spare`, counted in cells: a row takes
 /// one, and so does each of its fields. Only `new`, `reserve`, `part_out` and
-/// `part_in` take memory. A call that adds to the rows needs room that was reserved
-/// before, and can't fail.
+/// `part_in` take memory, and no clause says when they answer `OutOfMemory`: a store
+/// may at any time, and what then stays is said. A call that adds to the rows needs
+/// room that was reserved before, and can't fail.
 pub trait Store: Sized + Drop {
     /// The rows of one region, out of their store.
     type Part: Drop + Send;
@@ -44,7 +46,7 @@ pub trait Store: Sized + Drop {
     /// The region whose rows a part has.
     ghost part_region: { Self.Part → ObjId };
 
-    /// A store without rows. `OutOfMemory` comes only where memory runs out.
+    /// A store without rows.
     fn new(alloc: Global) -> Result<Self, OutOfMemory>
         ensures { IfOk result (λ store. rows store ≡ []) };
 
@@ -79,7 +81,7 @@ pub trait Store: Sized + Drop {
     /// The value of a row's field, where the row has it.
     fn field<L: Ledger>(&self, o: ObjId, key: Key, steps: &mut Steps<L>) -> Option<Value>
         requires there { HasRow (rows self.now) o }
-        ensures value { result ≡ value_at (rows self.now) o key }
+        ensures value { result ≡ field_value_at (rows self.now) o key }
         ensures step { steps.new ≡ steps.old + 1 };
 
     /// Sets a row's field, in its place where the row has it, and else last, and gives
@@ -93,8 +95,8 @@ pub trait Store: Sized + Drop {
     ) -> Option<Value>
         requires there { HasRow (rows self.old) o }
         requires room { OwnerHasRoom (spare self.old) (rows self.old) o (room_for_field (rows self.old) o key) }
-        ensures value { result ≡ value_at (rows self.old) o key }
-        ensures rows { SameByOwner (rows self.new) (with_field (rows self.old) o key v) }
+        ensures value { result ≡ field_value_at (rows self.old) o key }
+        ensures rows { SameByOwner (rows self.new) (with_field_of (rows self.old) o key v) }
         ensures room { LowersAtMost (spare self.old) (spare self.new) (room_for_field (rows self.old) o key) }
         ensures step { steps.new ≡ steps.old + 1 };
 
@@ -102,8 +104,8 @@ pub trait Store: Sized + Drop {
     /// fields close up.
     fn take_field<L: Ledger>(&mut self, o: ObjId, key: Key, steps: &mut Steps<L>) -> Option<Value>
         requires there { HasRow (rows self.old) o }
-        ensures value { result ≡ value_at (rows self.old) o key }
-        ensures rows { SameByOwner (rows self.new) (without_field (rows self.old) o key) }
+        ensures value { result ≡ field_value_at (rows self.old) o key }
+        ensures rows { SameByOwner (rows self.new) (without_field_of (rows self.old) o key) }
         ensures room { LowersNone (spare self.old) (spare self.new) }
         ensures step { steps.new ≡ steps.old + 1 };
 
@@ -112,7 +114,7 @@ pub trait Store: Sized + Drop {
     fn insert<L: Ledger>(&mut self, o: ObjId, owner: Owner, steps: &mut Steps<L>)
         requires new { IsNewName (rows self.old) o }
         requires room { 1 ≤ spare self.old owner }
-        ensures rows { SameByOwner (rows self.new) (with_row (rows self.old) o owner) }
+        ensures rows { SameByOwner (rows self.new) (with_new_row (rows self.old) o owner) }
         ensures room { LowersAtMost (spare self.old) (spare self.new) 1 }
         ensures step { steps.new ≡ steps.old + 1 };
 
@@ -155,15 +157,15 @@ pub trait Store: Sized + Drop {
         ensures room { LowersNone (spare self.old) (spare self.new) }
         ensures step { steps.new ≡ steps.old + 1 };
 
-    /// Makes room for so many cells under an owner. `OutOfMemory` comes where memory
-    /// runs out or a store can't have so many cells. Room that is there stays.
+    /// Makes room for so many cells under an owner. After `OutOfMemory` too all rows
+    /// stay, and no owner has less room.
     fn reserve(&mut self, owner: Owner, cells: usize) -> Result<(), OutOfMemory>
         ensures rows { SameByOwner (rows self.new) (rows self.old) }
         ensures enough { OnOk result (cells ≤ spare self.new owner) }
         ensures room { LowersNone (spare self.old) (spare self.new) };
 
     /// Takes the rows of a region out, in their order. All other rows stay. After
-    /// `OutOfMemory`, which comes only where memory runs out, all rows stay.
+    /// `OutOfMemory` all rows stay.
     fn part_out(&mut self, region: ObjId) -> Result<Self::Part, OutOfMemory>
         ensures part { IfOk result (λ part. part_rows part ≡ rows_of (In region) (rows self.old)) }
         ensures region { IfOk result (λ part. part_region part ≡ region) }
@@ -171,8 +173,7 @@ pub trait Store: Sized + Drop {
         ensures unchanged { OnErr result (SameByOwner (rows self.new) (rows self.old)) };
 
     /// Puts the rows of a part back under its region, in their order, with their fields
-    /// and counts. After `OutOfMemory`, which comes where memory runs out or a store
-    /// can't have so many cells, all rows stay and the part is handed back.
+    /// and counts. After `OutOfMemory` all rows stay and the part is handed back.
     fn part_in(&mut self, part: Self::Part) -> Result<(), (Self::Part, OutOfMemory)>
         requires new { AllNew (part_rows part) (rows self.old) }
         requires empty { rows_of (In (part_region part)) (rows self.old) ≡ [] }

@@ -17,7 +17,8 @@ is_name_byte byte = is_letter byte || is_digit byte
 abbrev pub words : List (List ℕ)
 words =
     codes "and" ∷ codes "def" ∷ codes "drop" ∷ codes "elif" ∷ codes "else" ∷ codes "False" ∷ codes "if" ∷ codes "move"
-    ∷ codes "None" ∷ codes "not" ∷ codes "or" ∷ codes "pass" ∷ codes "return" ∷ codes "True" ∷ codes "when" ∷ codes "while" ∷ codes "with" ∷ []
+    ∷ codes "None" ∷ codes "not" ∷ codes "or" ∷ codes "pass" ∷ codes "return" ∷ codes "True"
+    ∷ codes "when" ∷ codes "while" ∷ codes "with" ∷ []
 
 -- what stands in a text for itself
 abbrev pub is_text_byte : ℕ → Bool
@@ -29,6 +30,6 @@ Passes test [] = Unit {0}
 Passes test (byte ∷ bytes) = (test byte ≡ true) × Passes test bytes
 
 -- the first of the bytes, if there is one, doesn't pass
-abbrev pub Stops : (ℕ → Bool) → List ℕ → Type 0
-Stops test [] = Unit {0}
-Stops test (byte ∷ bytes) = test byte ≡ false
+abbrev pub PassesNoMore : (ℕ → Bool) → List ℕ → Type 0
+PassesNoMore test [] = Unit {0}
+PassesNoMore test (byte ∷ bytes) = test byte ≡ false

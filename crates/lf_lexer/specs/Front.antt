@@ -1,4 +1,4 @@
--- What stands at the front of the rest of a line, as a function.
+-- The front of the rest of a line, which is what stands next on it: a token, a space, an end or a refusal, as a function of the bytes.
 use Rattle.std.specs.Prelude.{ℕ, ◌+◌, ◌^◌, ◌==◌, ◌||◌, List, [], ◌∷◌, Option, Some, None, if◌then◌else◌, nat_lt, take, pos}
 use Rattle.std.specs.List.{prefix_len}
 use Rattle.std.specs.Str.Parse.{digits_value}
@@ -32,7 +32,7 @@ number_front_at bytes len =
 abbrev pub number_front : List ℕ → Front
 number_front bytes = number_front_at bytes (prefix_len is_digit bytes)
 
--- what stands at the front of the rest of a text, behind its backslash
+-- what stands at the front of the rest of a text, after its backslash
 abbrev pub pair_step : List ℕ → TextStep
 pair_step [] = step.Open
 pair_step (next ∷ rest) = if (next == 34) || (next == 92) then step.Goes 2 else step.Bad 1
@@ -40,7 +40,9 @@ pair_step (next ∷ rest) = if (next == 34) || (next == 92) then step.Goes 2 els
 -- what stands at the front of the rest of a text
 unfoldable pub text_step : List ℕ → TextStep
 text_step [] = step.Open
-text_step (byte ∷ rest) = if byte == 34 then step.Closes else if byte == 92 then pair_step rest else if is_text_byte byte then step.Goes 1 else step.Bad 0
+text_step (byte ∷ rest) =
+    if byte == 34 then step.Closes else if byte == 92 then pair_step rest else
+    if is_text_byte byte then step.Goes 1 else step.Bad 0
 
 -- how the text ends, so many bytes of which stand before these
 unfoldable pub text_end : ℕ → List ℕ → TextEnd

@@ -8,11 +8,11 @@ use Rattle.lf_lexer.specs.declared.front.Front.{Front}
 use Rattle.lf_lexer.specs.declared.front.Front.TheVariants.{End, Space, Name, Number, Text, Sign, Refused}
 
 -- a step in a text takes some bytes that are there
-abbrev pub StepsWithin : ℕ → TextStep → Type 0
-StepsWithin count step.Closes = 1 ≤ count
-StepsWithin count step.Open = Unit {0}
-StepsWithin count (step.Bad offset) = offset + 1 ≤ count
-StepsWithin count (step.Goes len) = (1 ≤ len) × (len ≤ count)
+abbrev pub TextStepsWithin : ℕ → TextStep → Type 0
+TextStepsWithin count step.Closes = 1 ≤ count
+TextStepsWithin count step.Open = Unit {0}
+TextStepsWithin count (step.Bad offset) = offset + 1 ≤ count
+TextStepsWithin count (step.Goes len) = (1 ≤ len) × (len ≤ count)
 
 -- the end of a text stands within so many bytes
 abbrev pub EndsWithin : ℕ → TextEnd → Type 0

@@ -12,25 +12,29 @@ has_bytes (lexeme.Text id) = true
 has_bytes (lexeme.Mark mark) = true
 has_bytes _ = false
 
--- where tokens go on: where a line may begin, behind the level that a line opens, behind one that closes, or within a line
-pub data Spot : Type 0 where
-  at_line : Spot
-  behind_open : Spot
-  behind_close : Spot
-  in_line : Spot
+-- where tokens go on: where a line may begin, after the level that a line opens, after one that closes, or within a line
+pub data LayoutSpot : Type 0 where
+  at_line : LayoutSpot
+  after_open : LayoutSpot
+  after_close : LayoutSpot
+  in_line : LayoutSpot
 
 -- no line stands open there
-abbrev pub BetweenLines : Spot → Type 0
+abbrev pub BetweenLines : LayoutSpot → Type 0
 BetweenLines at_line = Unit {0}
-BetweenLines behind_close = Unit {0}
+BetweenLines after_close = Unit {0}
 BetweenLines _ = ⊥
 
 -- the tokens from a spot on, where so many levels are open: a level opens once at most before a line, and only at its front;
 -- no line is empty; levels close before a line or before the end; the one end is the last token, and no level is open there
-pub data Laid : Spot → ℕ → List Token → Type 0 where
-  ends : {spot : Spot} {token : Token} → BetweenLines spot → token.lexeme ≡ lexeme.End → Laid spot 0 (token ∷ [])
-  opens : {depth : ℕ} {token : Token} {tokens : List Token} → token.lexeme ≡ lexeme.Indent → Laid behind_open (suc depth) tokens → Laid at_line depth (token ∷ tokens)
-  closes : {spot : Spot} {depth : ℕ} {token : Token} {tokens : List Token} → BetweenLines spot → token.lexeme ≡ lexeme.Dedent → Laid behind_close depth tokens
+pub data Laid : LayoutSpot → ℕ → List Token → Type 0 where
+  ends : {spot : LayoutSpot} {token : Token} → BetweenLines spot → token.lexeme ≡ lexeme.End → Laid spot 0 (token ∷ [])
+  opens : {depth : ℕ} {token : Token} {tokens : List Token} → token.lexeme ≡ lexeme.Indent → Laid after_open (suc depth) tokens
+      → Laid at_line depth (token ∷ tokens)
+  closes : {spot : LayoutSpot} {depth : ℕ} {token : Token} {tokens : List Token} → BetweenLines spot → token.lexeme ≡ lexeme.Dedent
+      → Laid after_close depth tokens
       → Laid spot (suc depth) (token ∷ tokens)
-  goes_on : {spot : Spot} {depth : ℕ} {token : Token} {tokens : List Token} → has_bytes token.lexeme ≡ true → Laid in_line depth tokens → Laid spot depth (token ∷ tokens)
-  line_ends : {depth : ℕ} {token : Token} {tokens : List Token} → token.lexeme ≡ lexeme.NewLine → Laid at_line depth tokens → Laid in_line depth (token ∷ tokens)
+  goes_on : {spot : LayoutSpot} {depth : ℕ} {token : Token} {tokens : List Token} → has_bytes token.lexeme ≡ true
+      → Laid in_line depth tokens → Laid spot depth (token ∷ tokens)
+  line_ends : {depth : ℕ} {token : Token} {tokens : List Token} → token.lexeme ≡ lexeme.NewLine → Laid at_line depth tokens
+      → Laid in_line depth (token ∷ tokens)

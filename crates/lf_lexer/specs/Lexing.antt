@@ -1,4 +1,4 @@
--- What is lexed so far, and what each step adds to it.
+-- What is lexed so far, and what each step of the code adds to it: a token, a level, a line.
 use Rattle.std.specs.Prelude.{◌≡◌, ℕ, ◌+◌, ◌≤◌, ◌<◌, Bool, true, false, List, [], ◌∷◌, ◌++◌, length, map, take, drop}
 use Rattle.lf_base.specs.declared.refusals.Refusal.{Refusal}
 use Rattle.lf_base.specs.declared.refusals.RefusalKind.{RefusalKind}
@@ -15,7 +15,7 @@ use Rattle.lf_lexer.specs.declared.line_start.LineStart.{LineStart}
 use Rattle.lf_lexer.specs.Places.{token_at}
 use Rattle.lf_lexer.specs.Meaning.{meaning}
 use Rattle.lf_lexer.specs.Lexed.{with_token, with_name, with_quoted}
-use Rattle.lf_lexer.specs.Pieces.{Form, Piece, RestSpells}
+use Rattle.lf_lexer.specs.Pieces.{PieceForm, Piece, RestSpells}
 use Rattle.lf_lexer.specs.SourceLines.{full_lines, is_blank}
 use Rattle.lf_lexer.specs.Levels.{innermost, is_level, Closes, Indents, IndentRefused}
 use Rattle.lf_lexer.specs.Tokens.{texts_of_pieces, token_of}
@@ -23,7 +23,7 @@ use Rattle.lf_lexer.specs.Reading.{first_line, empty_piece, end_of, closing, Lin
 use Rattle.lf_lexer.specs.Refusals.{refusal_at, RestRefused, LineRefused}
 
 -- these pieces came to what was lexed before: their texts are numbered in any list that begins with the texts so far
-pub record Adds (old new : Lexed) (pieces : List Piece) : Type 0 where
+pub record AddsPieces (old new : Lexed) (pieces : List Piece) : Type 0 where
   pub texts : new.texts ≡ with_texts old.texts (texts_of_pieces pieces)
   pub tokens : (after : List Text) → Grows new.texts after → new.tokens ≡ old.tokens ++ map (token_of after) pieces
 
@@ -60,7 +60,7 @@ StepsWithin count (step.Refused kind offset) = offset ≤ count
 pub record LexesPieces (line : LineStart) (at : ℕ) (bytes : List ℕ) (old new : Lexed) (end : ℕ) : Type 0 where
   pub pieces : List Piece
   pub spells : RestSpells line at bytes pieces
-  pub adds : Adds old new pieces
+  pub adds : AddsPieces old new pieces
   pub end_is : end ≡ end_of 0 pieces
 
 pub record RefusedPieces (line : LineStart) (at : ℕ) (bytes : List ℕ) (refusal : Refusal) : Type 0 where
@@ -80,10 +80,10 @@ Descend (level ∷ levels) = (innermost levels < level) × Descend levels
 
 -- the levels before and after a line of this indentation came to what was lexed before
 pub record LexesIndent (line : LineStart) (indent : ℕ) (levels after : List ℕ) (old new : Lexed) : Type 0 where
-  pub forms : List Form
+  pub forms : List PieceForm
   pub indents : Indents levels indent after forms
   pub descend : Descend after
-  pub adds : Adds old new (map (empty_piece line indent) forms)
+  pub adds : AddsPieces old new (map (empty_piece line indent) forms)
 
 pub record RefusedIndent (line : LineStart) (indent : ℕ) (levels : List ℕ) (refusal : Refusal) : Type 0 where
   pub kind : RefusalKind
@@ -96,12 +96,12 @@ RefusesIndent line indent levels fails.OutOfMemory = Unit {0}
 
 -- the levels that are larger than an indentation closed, and came to what was lexed before
 pub record ClosesDown (line : LineStart) (indent : ℕ) (levels after : List ℕ) (old new : Lexed) : Type 0 where
-  pub forms : List Form
+  pub forms : List PieceForm
   pub low : innermost after ≤ indent
   pub descend : Descend after
-  pub on : (left : List ℕ) (others : List Form) → Closes indent after left others → Closes indent levels left (forms ++ others)
+  pub on : (left : List ℕ) (others : List PieceForm) → Closes indent after left others → Closes indent levels left (forms ++ others)
   pub no_level : is_level indent after ≡ false → is_level indent levels ≡ false
-  pub adds : Adds old new (map (empty_piece line indent) forms)
+  pub adds : AddsPieces old new (map (empty_piece line indent) forms)
 
 -- a blank line changes nothing
 pub record BlankLine (bytes : List ℕ) (levels after : List ℕ) (old new : Lexed) : Type 0 where
@@ -114,7 +114,7 @@ pub record FilledLine (line : LineStart) (bytes : List ℕ) (levels after : List
   pub pieces : List Piece
   pub spells : LineSpells line levels after bytes pieces
   pub descend : Descend after
-  pub adds : Adds old new pieces
+  pub adds : AddsPieces old new pieces
 
 abbrev pub LexesLine : LineStart → List ℕ → List ℕ → List ℕ → Lexed → Lexed → Bool → Type 0
 LexesLine line bytes levels after old new false = BlankLine bytes levels after old new
@@ -128,4 +128,4 @@ RefusesLine line levels bytes fails.OutOfMemory = Unit {0}
 pub record LexesLines (bytes : List ℕ) (old new : Lexed) (levels : List ℕ) (last : ℕ) : Type 0 where
   pub pieces : List Piece
   pub spelled : LinesSpell (length bytes) [] 0 first_line (full_lines bytes) (pieces ++ closing (length bytes) last levels)
-  pub adds : Adds old new pieces
+  pub adds : AddsPieces old new pieces

@@ -1,10 +1,10 @@
--- The lines of each script's tokens.
+-- On which lines the tokens of each script stand: none on an earlier one than the token before it.
 use Rattle.std.specs.Prelude.{ℕ, suc, ◌≤◌, List, [], ◌∷◌}
 use Rattle.lf_lexer.specs.declared.tokens.Lexeme.{Lexeme}
 use Rattle.lf_lexer.specs.declared.tokens.Lexeme.TheVariants as lexeme
 use Rattle.lf_lexer.specs.declared.tokens.Token.{Token}
 
--- the least line of what stands behind a lexeme of this line
+-- the least line of what stands after a lexeme of this line
 abbrev pub least_line : Lexeme → ℕ → ℕ
 least_line lexeme.NewLine line = suc line
 least_line _ line = line

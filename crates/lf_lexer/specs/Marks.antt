@@ -2,7 +2,10 @@
 use Rattle.std.specs.Prelude.{ℕ, ◌==◌, List, [], ◌∷◌, Option, Some, None, if◌then◌else◌}
 use Rattle.std.specs.Str.{bytes_eq}
 use Rattle.lf_lexer.specs.declared.tokens.Mark.{Mark}
-use Rattle.lf_lexer.specs.declared.tokens.Mark.TheVariants.{And, Def, Drop, Elif, Else, False, If, Move, Not, Or, Pass, Return, True, When, While, With, OpenParen, CloseParen, OpenSquare, CloseSquare, OpenBrace, CloseBrace, Comma, Colon, Dot, Assign, Equal, NotEqual, Less, LessEqual, Greater, GreaterEqual, Plus, Minus, Star, Slash, Percent}
+use Rattle.lf_lexer.specs.declared.tokens.Mark.TheVariants.{And, Def, Drop, Elif, Else, False, If, Move, Not, Or, Pass, Return, True, When}
+use Rattle.lf_lexer.specs.declared.tokens.Mark.TheVariants.{While, With, OpenParen, CloseParen, OpenSquare, CloseSquare, OpenBrace}
+use Rattle.lf_lexer.specs.declared.tokens.Mark.TheVariants.{CloseBrace, Comma, Colon, Dot, Assign, Equal, NotEqual, Less, LessEqual}
+use Rattle.lf_lexer.specs.declared.tokens.Mark.TheVariants.{Greater, GreaterEqual, Plus, Minus, Star, Slash, Percent}
 use Rattle.lf_lexer.specs.declared.tokens.Mark.TheVariants as mark
 use Rattle.lf_lexer.specs.Bytes.{words}
 

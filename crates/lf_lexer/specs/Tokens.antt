@@ -6,10 +6,10 @@ use Rattle.lf_lexer.specs.declared.tokens.Lexeme.{Lexeme}
 use Rattle.lf_lexer.specs.declared.tokens.Lexeme.TheVariants as lexeme
 use Rattle.lf_lexer.specs.declared.tokens.Token.{Token}
 use Rattle.lf_lexer.specs.Places.{token_at}
-use Rattle.lf_lexer.specs.Pieces.{Form, name, number, text_of, mark_of, line_end, level_opens, level_closes, script_end, Piece}
+use Rattle.lf_lexer.specs.Pieces.{PieceForm, name, number, text_of, mark_of, line_end, level_opens, level_closes, script_end, Piece}
 
 -- the text that a piece brings in
-abbrev pub texts_of_form : Form → List ℕ → List Text
+abbrev pub texts_of_form : PieceForm → List ℕ → List Text
 texts_of_form name bytes = bytes ∷ []
 texts_of_form (text_of text) bytes = text ∷ []
 texts_of_form _ bytes = []
@@ -18,11 +18,11 @@ abbrev pub texts_of_pieces : List Piece → List Text
 texts_of_pieces pieces = flat_map (λ piece. texts_of_form piece.form piece.bytes) pieces
 
 -- the script's texts: the fixed ones, and then those of its pieces as they are first seen
-abbrev pub texts_of : List Piece → List Text
-texts_of pieces = with_texts fixed_texts (texts_of_pieces pieces)
+abbrev pub script_texts : List Piece → List Text
+script_texts pieces = with_texts fixed_texts (texts_of_pieces pieces)
 
 -- what a token is, its text numbered by its place
-abbrev pub lexeme_of : List Text → Form → List ℕ → Lexeme
+abbrev pub lexeme_of : List Text → PieceForm → List ℕ → Lexeme
 lexeme_of texts name bytes = lexeme.Name (record { index = place_of texts bytes })
 lexeme_of texts number bytes = lexeme.Number (pos (digits_value 10 bytes))
 lexeme_of texts (text_of text) bytes = lexeme.Text (record { index = place_of texts text })

@@ -1,10 +1,10 @@
 //! What the scans over bytes share.
 
-ghost use Rattle.std.specs.Prelude.{◌≡◌, ◌≤◌, length};
+ghost use Rattle.std.specs.Prelude.{◌≡◌, ◌≤◌, ◌+◌, drop, length};
 ghost use Rattle.std.specs.List.{prefix_len};
 ghost use Rattle.lf_lexer.specs.Bytes as spec;
 ghost use Rattle.lf_lexer.specs.LineRest as spec_rest;
-ghost use Rattle.lf_lexer.specs.SourceLines.{full_line_len, indentation};
+ghost use Rattle.lf_lexer.specs.SourceLines.{full_line_len, indentation, is_blank};
 
 pub fn is_digit(byte: u8) -> bool
     ensures { result ≡ spec.is_digit byte }
@@ -44,7 +44,7 @@ pub fn name_len(bytes: &[u8]) -> usize
 }
 
 /// The number of spaces at the front.
-pub fn spaces_len(bytes: &[u8]) -> usize
+fn spaces_len(bytes: &[u8]) -> usize
     ensures len { result ≡ indentation bytes.now }
     ensures within { result ≤ length bytes.now }
 {
@@ -54,6 +54,21 @@ pub fn spaces_len(bytes: &[u8]) -> usize
         }
     }
     bytes.len()
+}
+
+/// The indentation of the line at the front, and what is left of the script after it.
+pub fn split_indent(bytes: &[u8]) -> (usize, &[u8])
+    ensures len { result.0 ≡ indentation (spec_rest.line_rest bytes.now) }
+    ensures within { result.0 ≤ length bytes.now }
+    ensures whole { result.0 + length (spec_rest.line_rest result.1.now) ≡ length (spec_rest.line_rest bytes.now) }
+    ensures whole_len { result.0 + length result.1.now ≡ length bytes.now }
+    ensures after { spec_rest.line_rest result.1.now ≡ drop (indentation (spec_rest.line_rest bytes.now)) (spec_rest.line_rest bytes.now) }
+    ensures full { result.0 + full_line_len result.1.now ≡ full_line_len bytes.now }
+    ensures blank { is_blank (spec_rest.line_rest bytes.now) ≡ spec_rest.ends_tokens result.1.now }
+{
+    let len = spaces_len(bytes);
+    let (_, after) = bytes.split_at(len);
+    (len, after)
 }
 
 /// Whether the line ends before these bytes, which are left of the script: by a line

@@ -10,7 +10,7 @@ use crate::texts::{TextEnd, text_end};
 use crate::tokens::Mark;
 use lf_base::{OutOfMemory, RefusalKind};
 
-/// What stands at the front of the rest of a line.
+/// The front of the rest of a line: what stands next on it.
 #[derive(Clone, Copy, Debug, PartialEq, Eq)]
 pub enum Front {
     /// The end of the line, or a comment, which goes to it.
@@ -24,13 +24,13 @@ pub enum Front {
     Text(usize),
     /// A word or a sign of so many bytes.
     Sign(Mark, usize),
-    /// What is refused, at the byte behind so many.
+    /// What is refused, at the byte after so many.
     Refused(RefusalKind, usize),
 }
 
 /// What stands at the front of these bytes, which are left of the script, on their line.
-/// Where that is a text, `text` is then what it means. `OutOfMemory` comes only where
-/// memory runs out.
+/// Where that is a text, `text` is then what it means. No clause says when `OutOfMemory`
+/// comes, nor what `text` then is.
 #[tactic(auto, unfolding(crate::specs::Front::front))]
 pub fn front_of(text: &mut Vec<u8>, bytes: &[u8]) -> Result<Front, OutOfMemory>
     ensures front { IfOk result (λ front. front ≡ spec.front (line_rest bytes.now)) }

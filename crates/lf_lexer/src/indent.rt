@@ -1,20 +1,17 @@
 ghost use Rattle.std.specs.Prelude.{◌≡◌, ◌<◌, ◌≤◌, ◌+◌, ◌^◌, length, IfOk, IfErr, OnOk};
 ghost use Rattle.lf_lexer.specs.Levels as spec;
-ghost use Rattle.lf_lexer.specs.Lexing.{Descend, LexesIndent, RefusesIndent, ClosesDown, Adds};
+ghost use Rattle.lf_lexer.specs.Lexing.{Descend, LexesIndent, RefusesIndent, ClosesDown, AddsPieces};
 ghost use Rattle.lf_lexer.specs.Reading.{closing};
 
 use crate::levels::Levels;
 use crate::lexed::Lexed;
 use crate::line_start::LineStart;
 use crate::tokens::Lexeme;
-use lf_base::{OutOfMemory, ReadFail, RefusalKind};
-
-/// The most levels of indentation above 0.
-const MOST_LEVELS: usize = 64;
+use lf_base::{MOST_INDENT_LEVELS, OutOfMemory, ReadFail, RefusalKind};
 
 /// Opens or closes levels for a line of this indentation, and adds their tokens.
 /// `BadIndent` comes exactly where a smaller indentation equals no level, and
-/// `TooDeepIndent` where a larger one would be the 65th.
+/// `TooDeepIndent` where a larger one would be one level too many.
 pub fn lex_indent(
     lexed: &mut Lexed,
     levels: &mut Levels,
@@ -49,7 +46,7 @@ fn open_level(
     ensures lexed { OnOk result (LexesIndent line indent levels.old levels.new lexed.old lexed.new) }
     ensures refused { IfErr result (RefusesIndent line indent levels.old) }
 {
-    if levels.len() >= MOST_LEVELS {
+    if levels.len() >= MOST_INDENT_LEVELS {
         return Err(ReadFail::Refused(line.refusal(RefusalKind::TooDeepIndent, indent)));
     }
     levels.push(indent)?;
@@ -84,7 +81,7 @@ pub fn close_script(
     last: u32,
 ) -> Result<(), OutOfMemory>
     requires { (size + 1 < 2 ^ 32) × (last + 1 < 2 ^ 32) }
-    ensures { OnOk result (Adds lexed.old lexed.new (closing size last levels.old)) }
+    ensures { OnOk result (AddsPieces lexed.old lexed.new (closing size last levels.old)) }
 {
     let line = LineStart {
         number: last + 1,

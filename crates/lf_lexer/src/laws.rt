@@ -2,18 +2,19 @@
 
 ghost use Rattle.std.specs.Prelude.{◌≡◌, ◌⊎◌, ◌+◌, ◌*◌, ◌≤◌, ℕ, List, length};
 ghost use Rattle.lf_base.specs.declared.refusals.Refusal.{Refusal};
-ghost use Rattle.lf_base.specs.Texts.{Text, fixed_texts, Grows, Differ};
+ghost use Rattle.lf_base.specs.Texts.{Text, fixed_texts, Grows, TextsDiffer};
 ghost use Rattle.lf_lexer.specs.declared.tokens.Token.{Token};
 ghost use Rattle.lf_lexer.specs.Layout.{Laid, at_line};
 ghost use Rattle.lf_lexer.specs.LineOrder.{OnLines};
 ghost use Rattle.lf_lexer.specs.NamedTexts.{AllNameWithin};
-ghost use Rattle.lf_lexer.specs.Order.{InOrder};
+ghost use Rattle.lf_lexer.specs.Order.{InTokenOrder};
 ghost use Rattle.lf_lexer.specs.Reading.{Spells};
-ghost use Rattle.lf_lexer.specs.Refusals.{IsFirstRefusal};
+ghost use Rattle.lf_lexer.specs.Refusals.{IsFirstLexRefusal};
 
 /// Each list of bytes spells tokens and texts, or has a first refusal.
 pub fn scripts_are_spelled_or_refused()
-    ensures { (bytes : List ℕ) → ((tokens : List Token) × ((texts : List Text) × Spells bytes tokens texts)) ⊎ ((refusal : Refusal) × IsFirstRefusal bytes refusal) }
+    ensures { (bytes : List ℕ) → ((tokens : List Token) × ((texts : List Text) × Spells bytes tokens texts))
+        ⊎ ((refusal : Refusal) × IsFirstLexRefusal bytes refusal) }
 {}
 
 /// It spells one list of tokens at most, and one of texts.
@@ -24,12 +25,12 @@ pub fn scripts_are_spelled_once()
 
 /// It has one first refusal at most.
 pub fn scripts_are_refused_once()
-    ensures { (bytes : List ℕ) (r r' : Refusal) → IsFirstRefusal bytes r → IsFirstRefusal bytes r' → r ≡ r' }
+    ensures { (bytes : List ℕ) (r r' : Refusal) → IsFirstLexRefusal bytes r → IsFirstLexRefusal bytes r' → r ≡ r' }
 {}
 
 /// It is never both spelled and refused.
 pub fn spelled_scripts_are_not_refused()
-    ensures { (bytes : List ℕ) (t : List Token) (x : List Text) (r : Refusal) → Spells bytes t x → ¬ IsFirstRefusal bytes r }
+    ensures { (bytes : List ℕ) (t : List Token) (x : List Text) (r : Refusal) → Spells bytes t x → ¬ IsFirstLexRefusal bytes r }
 {}
 
 /// The tokens lie in lines and levels: the one end is last, each level that opens
@@ -41,10 +42,10 @@ pub fn spelled_tokens_are_laid()
 /// Their places and their spans are in order, and the span of a token is empty
 /// exactly where its lexeme has no bytes.
 pub fn spelled_tokens_are_in_order()
-    ensures { (bytes : List ℕ) (t : List Token) (x : List Text) → Spells bytes t x → InOrder 1 1 0 t }
+    ensures { (bytes : List ℕ) (t : List Token) (x : List Text) → Spells bytes t x → InTokenOrder 1 1 0 t }
 {}
 
-/// Their lines don't fall, and a token behind the end of a line stands on a later one.
+/// Their lines don't fall, and a token after the end of a line stands on a later one.
 pub fn spelled_tokens_are_on_lines()
     ensures { (bytes : List ℕ) (t : List Token) (x : List Text) → Spells bytes t x → OnLines 1 t }
 {}
@@ -58,6 +59,6 @@ pub fn spelled_tokens_are_few()
 /// a token names is there.
 pub fn spelled_texts_are_named()
     ensures fixed { (bytes : List ℕ) (t : List Token) (x : List Text) → Spells bytes t x → Grows fixed_texts x }
-    ensures differ { (bytes : List ℕ) (t : List Token) (x : List Text) → Spells bytes t x → Differ x }
+    ensures differ { (bytes : List ℕ) (t : List Token) (x : List Text) → Spells bytes t x → TextsDiffer x }
     ensures named { (bytes : List ℕ) (t : List Token) (x : List Text) → Spells bytes t x → AllNameWithin (length x) t }
 {}

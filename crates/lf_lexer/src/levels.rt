@@ -47,8 +47,7 @@ impl Levels {
         self.items.len()
     }
 
-    /// Opens a level. `OutOfMemory` comes only where memory runs out; all is then as
-    /// it was.
+    /// Opens a level. No clause says when `OutOfMemory` comes; all is then as it was.
     pub fn push(&mut self, level: u32) -> Result<(), OutOfMemory>
         ensures ok { OnOk result (self.new ≡ level ∷ self.old) }
         ensures unchanged { OnErr result (self.new ≡ self.old) }

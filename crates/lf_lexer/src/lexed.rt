@@ -14,7 +14,7 @@ pub struct Lexed {
 
 impl Lexed {
     /// Adds a token.
-    pub fn push(&mut self, token: Token) -> Result<(), OutOfMemory>
+    pub(crate) fn push(&mut self, token: Token) -> Result<(), OutOfMemory>
         ensures { OnOk result (self.new ≡ with_token self.old token) }
     {
         match self.tokens.push(token) {
@@ -24,7 +24,12 @@ impl Lexed {
     }
 
     /// Adds the token of a name whose first byte stands at `at` in its line.
-    pub fn push_name(&mut self, line: LineStart, at: u32, name: &[u8]) -> Result<(), OutOfMemory>
+    pub(crate) fn push_name(
+        &mut self,
+        line: LineStart,
+        at: u32,
+        name: &[u8],
+    ) -> Result<(), OutOfMemory>
         requires { line.start + at + length name.now + 1 < 2 ^ 32 }
         ensures { OnOk result (self.new ≡ with_name line self.old at name.now) }
     {
@@ -34,7 +39,7 @@ impl Lexed {
 
     /// Adds the token of this text, which has so many bytes between its quotes, and
     /// whose first byte stands at `at` in its line.
-    pub fn push_quoted(
+    pub(crate) fn push_quoted(
         &mut self,
         line: LineStart,
         at: u32,

@@ -22,6 +22,3 @@ mod tokens;
 pub use lexed::Lexed;
 pub use script::lex;
 pub use tokens::{Lexeme, Mark, Token, Tokens};
-
-#[cfg(test)]
-mod tests;

@@ -2,9 +2,10 @@ ghost use Rattle.std.specs.Prelude.{◌≡◌, ◌<◌, ◌≤◌, ◌+◌, ◌^
 ghost use Rattle.lf_lexer.specs.Front as spec;
 ghost use Rattle.lf_lexer.specs.LineRest.{line_rest};
 ghost use Rattle.lf_lexer.specs.SourceLines.{full_line_len};
+ghost use Rattle.lf_lexer.specs.Pieces.{StopsAt};
 ghost use Rattle.lf_lexer.specs.Lexing.{with_front, step_at, StepsWithin, Descend, LexesPieces, RefusesPieces, LexesLine, RefusesLine};
 
-use crate::bytes::{ends_tokens, full_line_len, spaces_len};
+use crate::bytes::{ends_tokens, full_line_len, split_indent};
 use crate::front::{Front, front_of};
 use crate::indent::lex_indent;
 use crate::levels::Levels;
@@ -21,14 +22,14 @@ pub enum Step {
     Space,
     /// A token of so many bytes.
     Piece(usize),
-    /// Nothing: the byte behind so many is to blame.
+    /// Nothing: the byte after so many is to blame.
     Refused(RefusalKind, usize),
 }
 
 /// Where the tokens of a line end: places in it.
 #[derive(Clone, Copy, Debug, PartialEq, Eq)]
 struct TokensEnd {
-    /// Behind the last one; 0 where there is none.
+    /// After the last one; 0 where there is none.
     end: u32,
     /// Where a comment or the line's end begins.
     stop: u32,
@@ -94,7 +95,8 @@ fn lex_pieces(
     requires { line.start + indent + length bytes.now + 1 < 2 ^ 32 }
     ensures lexed { IfOk result (λ tokens. LexesPieces line indent (line_rest bytes.now) lexed.old lexed.new tokens.end) }
     ensures end { IfOk result (λ tokens. tokens.end ≤ tokens.stop) }
-    ensures stop { IfOk result (λ tokens. tokens.stop ≤ indent + length (line_rest bytes.now)) }
+    ensures stop { IfOk result (λ tokens. StopsAt indent (line_rest bytes.now) tokens.stop) }
+    ensures within { IfOk result (λ tokens. tokens.stop ≤ indent + length (line_rest bytes.now)) }
     ensures refused { IfErr result (RefusesPieces line indent (line_rest bytes.now)) }
 {
     let mut rest = bytes;
@@ -137,16 +139,15 @@ pub fn lex_line(
     ensures len { IfOk result (λ read. read.len ≡ full_line_len bytes.now) }
     ensures refused { IfErr result (RefusesLine line levels.old (line_rest bytes.now)) }
 {
-    let indent = spaces_len(bytes);
-    let (_, behind) = bytes.split_at(indent);
-    if ends_tokens(behind) {
+    let (indent, after) = split_indent(bytes);
+    if ends_tokens(after) {
         return Ok(LineRead {
             filled: false,
-            len: indent + full_line_len(behind),
+            len: indent + full_line_len(after),
         });
     }
     lex_indent(lexed, levels, line, indent as u32)?;
-    let tokens = lex_pieces(lexed, text, line, indent as u32, behind)?;
+    let tokens = lex_pieces(lexed, text, line, indent as u32, after)?;
     lexed.push(line.token(tokens.end, Lexeme::NewLine, 0))?;
     let stop = tokens.stop as usize;
     let (_, left) = bytes.split_at(stop);

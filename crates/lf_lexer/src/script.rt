@@ -1,7 +1,7 @@
 ghost use Rattle.std.specs.Prelude.{◌≡◌, ◌<◌, ◌≤◌, ◌+◌, ◌^◌, [], length, IfOk, IfErr};
 ghost use Rattle.lf_lexer.specs.Lexing.{LexesLines};
 ghost use Rattle.lf_lexer.specs.Reading.{Spells};
-ghost use Rattle.lf_lexer.specs.Refusals.{FailsAs};
+ghost use Rattle.lf_lexer.specs.Refusals.{LexFailsAs};
 
 use crate::indent::close_script;
 use crate::levels::Levels;
@@ -16,11 +16,11 @@ use std::alloc::Global;
 ///
 /// `Refused` comes exactly where the script's bytes spell no tokens, with the kind
 /// and the place of its first refusal: `BadByte`, `BadIndent`, `OpenText`,
-/// `WideNumber` or `TooDeepIndent`. `OutOfMemory` comes only where memory runs out.
+/// `WideNumber` or `TooDeepIndent`. No clause says when `OutOfMemory` comes.
 pub fn lex(alloc: Global, bytes: &[u8]) -> Result<Lexed, ReadFail>
     requires { length bytes.now ≤ MOST_SCRIPT_BYTES }
     ensures spelled { IfOk result (λ lexed. Spells bytes.now lexed.tokens lexed.texts) }
-    ensures refused { IfErr result (FailsAs bytes.now) }
+    ensures refused { IfErr result (LexFailsAs bytes.now) }
 {
     let mut lexed = Lexed {
         tokens: Tokens::new(alloc),
@@ -45,7 +45,7 @@ fn lex_lines(
     requires short { length bytes.now ≤ MOST_SCRIPT_BYTES }
     ensures lexed { IfOk result (LexesLines bytes.now lexed.old lexed.new levels.new) }
     ensures within { IfOk result (λ last. last ≤ length bytes.now + 1) }
-    ensures refused { IfErr result (FailsAs bytes.now) }
+    ensures refused { IfErr result (LexFailsAs bytes.now) }
 {
     let mut rest = bytes;
     let mut line = LineStart {
@@ -58,8 +58,8 @@ fn lex_lines(
         if read.filled {
             last = line.number;
         }
-        let (_, behind) = rest.split_at(read.len);
-        rest = behind;
+        let (_, after) = rest.split_at(read.len);
+        rest = after;
         line = LineStart {
             number: line.number + 1,
             start: line.start + read.len as u32,

@@ -2,7 +2,7 @@
 
 ghost use Rattle.std.specs.Prelude.{◌≡◌, ◌+◌, length, IfOk};
 ghost use Rattle.lf_lexer.specs.Front as spec;
-ghost use Rattle.lf_lexer.specs.FrontWithin.{EndsWithin, StepsWithin};
+ghost use Rattle.lf_lexer.specs.FrontWithin.{EndsWithin, TextStepsWithin};
 ghost use Rattle.lf_lexer.specs.LineRest.{line_rest};
 ghost use Rattle.lf_lexer.specs.Meaning.{EndMeans};
 
@@ -16,7 +16,7 @@ pub enum TextEnd {
     Closed(usize),
     /// It isn't closed.
     Open,
-    /// The byte behind so many of it can't stand in a text.
+    /// The byte after so many of it can't stand in a text.
     Bad(usize),
 }
 
@@ -27,15 +27,15 @@ enum TextStep {
     Closes,
     /// Nothing, or half a pair: the text isn't closed.
     Open,
-    /// What can't stand there, at the byte behind so many.
+    /// What can't stand there, at the byte after so many.
     Bad(usize),
     /// A part of the text, of so many bytes. It stands for the last of them.
     Goes(usize),
 }
 
-/// Reads a text behind whose opening quote these bytes are left of the script: how it
+/// Reads a text after whose opening quote these bytes are left of the script: how it
 /// ends. `text` is then what its bytes mean, each pair standing for its second byte.
-/// `OutOfMemory` comes only where memory runs out.
+/// No clause says when `OutOfMemory` comes, nor what `text` then is.
 pub fn text_end(text: &mut Vec<u8>, bytes: &[u8]) -> Result<TextEnd, OutOfMemory>
     ensures end { IfOk result (λ end. end ≡ spec.text_end 0 (line_rest bytes.now)) }
     ensures within { IfOk result (λ end. EndsWithin (length bytes.now) end) }
@@ -51,8 +51,8 @@ pub fn text_end(text: &mut Vec<u8>, bytes: &[u8]) -> Result<TextEnd, OutOfMemory
             TextStep::Bad(offset) => return Ok(TextEnd::Bad(at + offset)),
             TextStep::Goes(len) => {
                 text.push(rest[len - 1])?;
-                let (_, behind) = rest.split_at(len);
-                rest = behind;
+                let (_, after) = rest.split_at(len);
+                rest = after;
                 at += len;
             }
         }
@@ -62,28 +62,28 @@ pub fn text_end(text: &mut Vec<u8>, bytes: &[u8]) -> Result<TextEnd, OutOfMemory
 #[tactic(auto, unfolding(crate::specs::Front::text_step))]
 fn text_step(rest: &[u8]) -> TextStep
     ensures step { result ≡ spec.text_step (line_rest rest.now) }
-    ensures within { StepsWithin (length rest.now) result }
+    ensures within { TextStepsWithin (length rest.now) result }
 {
     if ends_line(rest) {
         return TextStep::Open;
     }
     match rest {
         [b'"', ..] => TextStep::Closes,
-        [b'\\', behind @ ..] => pair_step(behind),
+        [b'\\', after @ ..] => pair_step(after),
         [byte, ..] if is_text_byte(*byte) => TextStep::Goes(1),
         _ => TextStep::Bad(0),
     }
 }
 
 // What stands at the front of the rest of a text that has a backslash before these bytes.
-fn pair_step(behind: &[u8]) -> TextStep
-    ensures step { result ≡ spec.pair_step (line_rest behind.now) }
-    ensures within { StepsWithin (length behind.now + 1) result }
+fn pair_step(after: &[u8]) -> TextStep
+    ensures step { result ≡ spec.pair_step (line_rest after.now) }
+    ensures within { TextStepsWithin (length after.now + 1) result }
 {
-    if ends_line(behind) {
+    if ends_line(after) {
         return TextStep::Open;
     }
-    match behind {
+    match after {
         [b'"' | b'\\', ..] => TextStep::Goes(2),
         _ => TextStep::Bad(1),
     }

@@ -1,9 +1,9 @@
--- What an adapter over std is made of.
+-- What an adapter over std is made of: a reader or a writer, and the count of the adapter's own faults.
 use Rattle.std.specs.Prelude.{ℕ}
 use Rattle.lf_outside.specs.declared.read_source.ReadSource.{ReadSource}
 use Rattle.lf_outside.specs.declared.write_sink.WriteSink.{WriteSink}
 
--- the reader behind a source
+-- the reader of a source
 abbrev pub reader_of : {R : Type 0} → ReadSource R → R
 reader_of s = s.inner
 
@@ -11,7 +11,7 @@ reader_of s = s.inner
 abbrev pub read_faults : {R : Type 0} → ReadSource R → ℕ
 read_faults s = s.faults
 
--- the writer behind a sink
+-- the writer of a sink
 abbrev pub writer_of : {W : Type 0} → WriteSink W → W
 writer_of s = s.inner
 

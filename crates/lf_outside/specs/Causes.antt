@@ -1,7 +1,7 @@
--- Why a call to the outside may answer that it failed.
+-- Why a call to the outside may answer that it failed: only where its count of faults rose.
 use Rattle.std.specs.Prelude.{◌≡◌, ◌≤◌, ◌+◌, ◌-◌, ◌^◌, ℕ, min, OnOk, OnErr, Result}
 
--- a count with one more, which stands still at the end of its type
+-- a count with one more, which saturates at the end of its type
 abbrev pub one_more : ℕ → ℕ
 one_more count = min (count + 1) (2 ^ 64 - 1)
 

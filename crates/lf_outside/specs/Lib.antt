@@ -1,5 +1,5 @@
 pub mod Causes
 pub mod Streams
+pub mod Transfer
 pub mod Memory
 pub mod Adapters
-pub mod Transfer

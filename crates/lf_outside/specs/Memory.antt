@@ -10,9 +10,12 @@ pub record SourceState : Type 0 where
   pub calls : ℕ
   pub faults : ℕ
 
+abbrev pub source_state : List ℕ → ℕ → List ℕ → ℕ → ℕ → SourceState
+source_state left most failing calls faults = record { left = left; most = most; failing = failing; calls = calls; faults = faults }
+
 -- a source before its first call
 abbrev pub fresh_source : List ℕ → ℕ → List ℕ → SourceState
-fresh_source bytes most failing = record { left = bytes; most = most; failing = failing; calls = 0; faults = 0 }
+fresh_source bytes most failing = source_state bytes most failing 0 0
 
 -- a source after a call that gave so many bytes
 abbrev pub after_read : SourceState → ℕ → SourceState
@@ -31,9 +34,13 @@ pub record SinkState : Type 0 where
   pub calls : ℕ
   pub faults : ℕ
 
+abbrev pub sink_state : List ℕ → ℕ → ℕ → List ℕ → ℕ → ℕ → SinkState
+sink_state held room most failing calls faults =
+    record { held = held; room = room; most = most; failing = failing; calls = calls; faults = faults }
+
 -- a sink before its first call
 abbrev pub fresh_sink : ℕ → ℕ → List ℕ → SinkState
-fresh_sink room most failing = record { held = []; room = room; most = most; failing = failing; calls = 0; faults = 0 }
+fresh_sink room most failing = sink_state [] room most failing 0 0
 
 -- a sink after a call that took so many bytes of a piece
 abbrev pub after_write : SinkState → ℕ → List ℕ → SinkState

@@ -11,5 +11,5 @@ abbrev pub ConsumesUpTo : ℕ → Option (List ℕ) → Option (List ℕ) → Ty
 ConsumesUpTo most old new = (bytes : List ℕ) × (length bytes ≤ most) × Consumes old new bytes
 
 -- a prefix of these bytes was written
-abbrev pub AppendsFront : List ℕ → Option (List ℕ) → Option (List ℕ) → Type 0
-AppendsFront bytes old new = (count : ℕ) × (count ≤ length bytes) × Appends old new (take count bytes)
+abbrev pub AppendsPrefix : List ℕ → Option (List ℕ) → Option (List ℕ) → Type 0
+AppendsPrefix bytes old new = (count : ℕ) × (count ≤ length bytes) × Appends old new (take count bytes)

@@ -3,7 +3,8 @@
 //! It stands on `lf_base`. A [`Source`] and a [`Sink`] move bytes and count their
 //! faults. Here are both in memory and over std's readers and writers, and the two
 //! loops that read a source to its end and write a whole text. The promise: the bytes moved
-//! are exactly the counted ones, and a call fails only where a count of faults rose.
+//! are exactly the counted ones, and a call fails only where a count of faults rose. What
+//! a reader or a writer of std answers stays outside of what is proved.
 #![tactic(auto)]
 
 mod gates;

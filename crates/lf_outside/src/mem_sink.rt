@@ -22,11 +22,11 @@ pub struct MemSink {
 
 impl Model for MemSink {
     ghost use Rattle.std.specs.Prelude.{◌≤◌, ◌<◌, ◌-◌, vec_len, vec_capacity};
-    ghost use Rattle.lf_outside.specs.Memory.{SinkState};
+    ghost use Rattle.lf_outside.specs.Memory.{SinkState, sink_state};
 
     ghost Value = { SinkState };
 
-    ghost view = { λ s. record { held = s.bytes.items; room = s.room - vec_len s.bytes; most = s.most; failing = s.failing.items; calls = s.calls; faults = s.faults } };
+    ghost view = { λ s. sink_state s.bytes.items (s.room - vec_len s.bytes) s.most s.failing.items s.calls s.faults };
 
     ghost invariant = { λ s. (vec_len s.bytes ≤ s.room) × (s.room ≤ vec_capacity s.bytes) × (0 < s.most) };
 }
@@ -83,7 +83,8 @@ impl Sink for MemSink {
         // It fails exactly at the numbered calls and without room, and else takes all that it may.
         ensures fails { IsErr result ↔ ((self.old.room ≡ 0) ⊎ Contains self.old.failing self.old.calls) }
         ensures takes { IfOk result (λ n. n ≡ min (length bytes.now) (min self.old.room self.old.most)) }
-        ensures after { MatchResult result (λ n. self.new ≡ after_write self.old n bytes.now) (λ _. self.new ≡ after_failed_write self.old) }
+        ensures after { MatchResult result (λ n. self.new ≡ after_write self.old n bytes.now)
+            (λ _. self.new ≡ after_failed_write self.old) }
     {
         let call = self.calls;
         self.calls = self.calls.saturating_add(1);

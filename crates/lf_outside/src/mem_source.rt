@@ -21,11 +21,11 @@ pub struct MemSource {
 
 impl Model for MemSource {
     ghost use Rattle.std.specs.Prelude.{◌≤◌, ◌<◌, drop, length};
-    ghost use Rattle.lf_outside.specs.Memory.{SourceState};
+    ghost use Rattle.lf_outside.specs.Memory.{SourceState, source_state};
 
     ghost Value = { SourceState };
 
-    ghost view = { λ s. record { left = drop s.at s.bytes.items; most = s.most; failing = s.failing.items; calls = s.calls; faults = s.faults } };
+    ghost view = { λ s. source_state (drop s.at s.bytes.items) s.most s.failing.items s.calls s.faults };
 
     ghost invariant = { λ s. (s.at ≤ length s.bytes.items) × (0 < s.most) };
 }

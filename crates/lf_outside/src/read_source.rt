@@ -3,7 +3,9 @@ ghost use Rattle.std.specs.Prelude.{◌≡◌};
 use crate::streams::{Failed, Source};
 use std::io::Read;
 
-/// A reader of std as a source. It tells of its bytes what the reader tells.
+/// A reader of std as a source. It tells of its bytes what the reader tells, and its
+/// count of faults rises where it fails. That it fails where the reader does, and only
+/// there, is in no clause: std's reader tells nothing of its errors.
 #[derive(Drop)]
 pub struct ReadSource<R: Read> {
     inner: R,

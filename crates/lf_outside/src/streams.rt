@@ -12,10 +12,10 @@ pub trait Source {
     /// The bytes that are left, where the source tells them.
     ghost left: { Self → Option (List ℕ) };
 
-    /// How many calls have failed. The number never falls, and stands still at 2^64 - 1.
+    /// How many calls have failed. The number never falls, and saturates at 2^64 - 1.
     ghost faults: { Self → ℕ };
 
-    /// Moves the next bytes to the front of a buffer that isn't empty, and answers
+    /// Moves the next bytes to the start of a buffer that isn't empty, and answers
     /// how many. `Ok(0)` is the end of input. `Failed` comes only where `faults`
     /// rose, or stood at its last value, and leaves the bytes as they were. `Ok`
     /// leaves `faults` as it was.
@@ -31,10 +31,10 @@ pub trait Sink {
     /// The bytes that are held, where the sink tells them.
     ghost held: { Self → Option (List ℕ) };
 
-    /// How many calls have failed. The number never falls, and stands still at 2^64 - 1.
+    /// How many calls have failed. The number never falls, and saturates at 2^64 - 1.
     ghost faults: { Self → ℕ };
 
-    /// Takes bytes from the front of a piece that isn't empty, and answers how many,
+    /// Takes bytes from the start of a piece that isn't empty, and answers how many,
     /// at least one. `Failed` comes only where `faults` rose, or stood at its last
     /// value, and nothing was taken then. `Ok` leaves `faults` as it was.
     fn write(&mut self, bytes: &[u8]) -> Result<usize, Failed>

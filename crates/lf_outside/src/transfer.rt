@@ -1,7 +1,7 @@
 ghost use Rattle.std.specs.Prelude.{◌≡◌, ◌≤◌, ◌<◌, ◌+◌, ◌++◌, ◌-◌, ◌^◌, ℕ, List, length, take, drop, vec_len, IfOk, IsErrOf, OnErr, OnOk};
 ghost use Rattle.std.specs.Io.KnownBytes.{Appends, Consumes, IsAtEnd, Keeps};
 ghost use Rattle.lf_outside.specs.Causes.{HasCause, Rose};
-ghost use Rattle.lf_outside.specs.Transfer.{ConsumesUpTo, ConsumesSome, AppendsFront};
+ghost use Rattle.lf_outside.specs.Transfer.{ConsumesUpTo, ConsumesSome, AppendsPrefix};
 
 use crate::streams::{Failed, Sink, Source};
 use std::alloc::{AllocError, Global};
@@ -16,7 +16,8 @@ pub enum ReadStop {
     Fault,
     /// One byte more than the most was read.
     TooLong,
-    /// Memory ran out before the first call.
+    /// There was no memory for the bytes, and the source wasn't asked. No clause says
+    /// when that comes.
     OutOfMemory,
 }
 
@@ -31,7 +32,8 @@ fn make_buffer(alloc: Global, len: usize) -> Result<Vec<u8>, AllocError>
 fn read_piece<S: Source>(source: &mut S, buffer: &mut [u8], at: usize) -> Result<usize, Failed>
     requires { at < length buffer.old }
     ensures within { IfOk result (λ n. at + n ≤ length buffer.new) }
-    ensures bytes { IfOk result (λ n. (bs : List ℕ) × (take (at + n) buffer.new ≡ take at buffer.old ++ bs) × Consumes (S.left source.old) (S.left source.new) bs) }
+    ensures bytes { IfOk result (λ n. (bs : List ℕ) × (take (at + n) buffer.new ≡ take at buffer.old ++ bs)
+        × Consumes (S.left source.old) (S.left source.new) bs) }
     ensures end { IfOk result (λ n. n ≡ 0 → IsAtEnd (S.left source.new)) }
     ensures unchanged { OnErr result (Keeps (S.left source.old) (S.left source.new)) }
     ensures cause { HasCause (S.faults source.old) (S.faults source.new) result }
@@ -40,7 +42,7 @@ fn read_piece<S: Source>(source: &mut S, buffer: &mut [u8], at: usize) -> Result
     source.read(&mut buffer[at..at + len])
 }
 
-// Fills a buffer from its front, until it is full or the source is at its end.
+// Fills a buffer from its start, until it is full or the source is at its end.
 fn fill<S: Source>(source: &mut S, buffer: &mut [u8]) -> Result<usize, Failed>
     ensures within { IfOk result (λ n. n ≤ length buffer.new) }
     ensures bytes { IfOk result (λ n. Consumes (S.left source.old) (S.left source.new) (take n buffer.new)) }
@@ -94,7 +96,7 @@ pub fn read_all<S: Source>(alloc: Global, source: &mut S, most: usize) -> Result
 /// faults rose, and the sink then took a prefix of the bytes.
 pub fn write_all<K: Sink>(sink: &mut K, bytes: &[u8]) -> Result<(), Failed>
     ensures all { OnOk result (Appends (K.held sink.old) (K.held sink.new) bytes.now) }
-    ensures front { OnErr result (AppendsFront bytes.now (K.held sink.old) (K.held sink.new)) }
+    ensures prefix { OnErr result (AppendsPrefix bytes.now (K.held sink.old) (K.held sink.new)) }
     ensures cause { HasCause (K.faults sink.old) (K.faults sink.new) result }
 {
     let mut at = 0;
@@ -105,103 +107,4 @@ pub fn write_all<K: Sink>(sink: &mut K, bytes: &[u8]) -> Result<(), Failed>
         }
     }
     Ok(())
-}
-
-#[cfg(test)]
-mod tests {
-    use super::*;
-    use crate::mem_sink::MemSink;
-    use crate::mem_source::MemSource;
-    use crate::read_source::ReadSource;
-    use crate::write_sink::WriteSink;
-    use std::test::Fail;
-
-    const TEXT: &[u8] = b"a script of some bytes";
-
-    /// A source of zeros, which notes the longest and the shortest buffer.
-    #[derive(Drop)]
-    struct Zeros {
-        left: usize,
-        longest: usize,
-        shortest: usize,
-    }
-
-    impl Source for Zeros {
-        ghost use Rattle.std.specs.Prelude.{None};
-
-        ghost left = { λ _. None };
-
-        ghost faults = { λ _. 0 };
-
-        fn read(&mut self, buffer: &mut [u8]) -> Result<usize, Failed> {
-            self.longest = self.longest.max(buffer.len());
-            self.shortest = self.shortest.min(buffer.len());
-            let count = self.left.min(buffer.len());
-            self.left -= count;
-            Ok(count)
-        }
-    }
-
-    #[test]
-    fn asks_for_pieces_of_some_tens_of_kib(rt: HostRuntime) -> Result<(), Fail> {
-        let mut source = Zeros {
-            left: 200_000,
-            longest: 0,
-            shortest: 1_000_000,
-        };
-        let bytes = read_all(rt.alloc(), &mut source, 1_000_000);
-        assert_eq!(rt; bytes.map(|b| b.len()).unwrap_or(0), 200_000);
-        assert_eq!(rt; (source.longest, source.shortest), (65_536, 65_536));
-        Ok(())
-    }
-
-    #[test]
-    fn reads_and_writes_in_short_moves(rt: HostRuntime) -> Result<(), Fail> {
-        for most in [1, 3, 22, 100] {
-            let mut source = MemSource::new(rt.alloc(), TEXT, most, &[])?;
-            let bytes = read_all(rt.alloc(), &mut source, 22).map_err(|_| "a stop")?;
-            assert!(rt; bytes.as_slice() == TEXT, "at most {most}");
-            let mut sink = MemSink::new(rt.alloc(), 30, most, &[])?;
-            assert!(rt; write_all(&mut sink, bytes.as_slice()).is_ok());
-            assert!(rt; sink.bytes() == TEXT, "at most {most}");
-        }
-        Ok(())
-    }
-
-    #[test]
-    fn stops_where_it_must(rt: HostRuntime) -> Result<(), Fail> {
-        for (most_bytes, failing, stop) in [
-            (21, 9, ReadStop::TooLong),
-            (22, 2, ReadStop::Fault),
-            (22, 5, ReadStop::Fault),
-        ] {
-            let mut source = MemSource::new(rt.alloc(), TEXT, 5, &[failing])?;
-            let answer = read_all(rt.alloc(), &mut source, most_bytes);
-            assert_eq!(rt; answer.err(), Some(stop));
-        }
-        let mut full = MemSink::new(rt.alloc(), 10, 4, &[])?;
-        assert!(rt; write_all(&mut full, TEXT).is_err());
-        assert!(rt; full.bytes() == &TEXT[..10]);
-        let mut failing = MemSink::new(rt.alloc(), 30, 4, &[2])?;
-        assert!(rt; write_all(&mut failing, TEXT).is_err());
-        assert!(rt; failing.bytes() == &TEXT[..8]);
-        Ok(())
-    }
-
-    #[test]
-    fn adapts_readers_and_writers(rt: HostRuntime) -> Result<(), Fail> {
-        let mut source = ReadSource::new(TEXT);
-        let bytes = read_all(rt.alloc(), &mut source, 100).map_err(|_| "a stop")?;
-        assert!(rt; bytes.as_slice() == TEXT);
-        let mut held = Vec::new(rt.alloc());
-        {
-            let mut sink = WriteSink::new(&mut held);
-            assert!(rt; write_all(&mut sink, TEXT).is_ok());
-        }
-        assert!(rt; held.as_slice() == TEXT);
-        let mut room = [0u8; 10];
-        let mut short = WriteSink::new(room.as_mut_slice());
-        assert!(rt; write_all(&mut short, TEXT).is_err());
-        Ok(())
-    }
 }

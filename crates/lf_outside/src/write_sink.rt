@@ -3,7 +3,9 @@ ghost use Rattle.std.specs.Prelude.{◌≡◌};
 use crate::streams::{Failed, Sink};
 use std::io::Write;
 
-/// A writer of std as a sink. It tells of its bytes what the writer tells.
+/// A writer of std as a sink. It tells of its bytes what the writer tells, and its
+/// count of faults rises where it fails. That it fails where the writer does or takes
+/// nothing, and only there, is in no clause: std's writer tells nothing of its errors.
 #[derive(Drop)]
 pub struct WriteSink<W: Write> {
     inner: W,

@@ -7,8 +7,8 @@ abbrev pub Form : Type 0 → Type 1
 Form A = List Token → A → Type 0
 
 -- no token, and this value
-abbrev pub Gives : {A : Type 0} → A → Form A
-Gives a ts b = (ts ≡ []) × (b ≡ a)
+abbrev pub Yields : {A : Type 0} → A → Form A
+Yields a ts b = (ts ≡ []) × (b ≡ a)
 
 -- one token, of which f makes the value
 abbrev pub Takes : {A : Type 0} → (Token → Option A) → Form A
@@ -18,7 +18,7 @@ Takes f ts a = (t : Token) × (ts ≡ t ∷ []) × (f t ≡ Some a)
 abbrev pub Only : {A : Type 0} → Type 0 → Form A → Form A
 Only condition P ts a = condition × P ts a
 
--- P, and behind it what Q says of P's value
+-- P, and after it what Q says of P's value
 infixr 10 ◌⨟◌
 abbrev pub ◌⨟◌ : {A B : Type 0} → Form A → (A → Form B) → Form B
 (P ⨟ Q) ts b = (xs : List Token) × (ys : List Token) × (a : _) × (ts ≡ xs ++ ys) × P xs a × Q a ys b
@@ -37,6 +37,6 @@ pub data Many {S : Type 0} (Step : S → Form S) : S → List Token → S → Ty
 abbrev pub Located : {A : Type 0} → (ℕ → Form A) → Form A
 Located P ts a = (t : Token) × (rest : List Token) × (ts ≡ t ∷ rest) × P t.place.line ts a
 
--- some tokens go on with these to such a form
-abbrev pub Begins : {A : Type 0} → Form A → List Token → Type 0
-Begins {A} P ts = (more : List Token) × (a : A) × P (ts ++ more) a
+-- such a form begins with these tokens: some others go on with them
+abbrev pub HasPrefix : {A : Type 0} → Form A → List Token → Type 0
+HasPrefix {A} P ts = (more : List Token) × (a : A) × P (ts ++ more) a

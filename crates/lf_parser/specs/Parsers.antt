@@ -8,22 +8,22 @@ use Rattle.lf_parser.specs.declared.halt.Halt.{Halt}
 use Rattle.lf_parser.specs.declared.halt.Halt.TheVariants.{Refused, OutOfMemory}
 use Rattle.lf_parser.specs.Kinds.{head}
 
--- what was read and the tokens behind it, or a refusal and the tokens from the refused one on
-pub data Read (A : Type 0) : Type 0 where
-  Ok : A → List Token → Read A
-  Err : Cause → List Token → Read A
+-- what was read and the tokens after it, or a refusal and the tokens from the refused one on
+pub data ReadOutcome (A : Type 0) : Type 0 where
+  Ok : A → List Token → ReadOutcome A
+  Err : Cause → List Token → ReadOutcome A
 
 abbrev pub Parser : Type 0 → Type 0
-Parser A = List Token → Read A
+Parser A = List Token → ReadOutcome A
 
-abbrev pub after : {A B : Type 0} → Read A → (A → Parser B) → Read B
-after (Ok a ts) f = f a ts
-after (Err c ts) f = Err c ts
+abbrev pub then_read : {A B : Type 0} → ReadOutcome A → (A → Parser B) → ReadOutcome B
+then_read (Ok a ts) f = f a ts
+then_read (Err c ts) f = Err c ts
 
--- one behind the other
+-- one after the other
 infixl 10 ◌>>=◌
 abbrev pub ◌>>=◌ : {A B : Type 0} → Parser A → (A → Parser B) → Parser B
-p >>= f = λ ts. after (p ts) f
+p >>= f = λ ts. then_read (p ts) f
 
 abbrev pub pure : {A : Type 0} → A → Parser A
 pure a = λ ts. Ok a ts
@@ -35,14 +35,14 @@ fail c = λ ts. Err c ts
 abbrev pub seeing : {A : Type 0} → (Option Token → Parser A) → Parser A
 seeing f = λ ts. f (head ts) ts
 
-abbrev pub taken : {A : Type 0} → Bool → Cause → Option A → Token → List Token → Read A
-taken b c (Some a) t ts = if b then Ok a ts else Err c (t ∷ ts)
-taken b c None t ts = Err Unexpected (t ∷ ts)
+abbrev pub taken_if : {A : Type 0} → Bool → Cause → Option A → Token → List Token → ReadOutcome A
+taken_if b c (Some a) t ts = if b then Ok a ts else Err c (t ∷ ts)
+taken_if b c None t ts = Err Unexpected (t ∷ ts)
 
 -- takes a token of which f makes a value, where b allows it, and else refuses it
 abbrev pub allow : {A : Type 0} → Bool → Cause → (Token → Option A) → Parser A
 allow b c f [] = Err Unexpected []
-allow b c f (t ∷ ts) = taken b c (f t) t ts
+allow b c f (t ∷ ts) = taken_if b c (f t) t ts
 
 abbrev pub take : {A : Type 0} → (Token → Option A) → Parser A
 take f = allow true Unexpected f
@@ -59,10 +59,10 @@ unfoldable pub many : {S : Type 0} → (Option Token → Bool) → (S → Parser
 many goes step s ts = loop goes step (suc (length ts)) s ts
 
 -- what a function that reads ensures: its value, seen through view, and the tokens left are those read
-abbrev pub FailsAs : {A : Type 0} → Read A → Halt → List Token → Type 0
-FailsAs o OutOfMemory new = Unit {0}
-FailsAs o (Refused c) new = o ≡ Err c new
+abbrev pub HaltsAs : {A : Type 0} → ReadOutcome A → Halt → List Token → Type 0
+HaltsAs o OutOfMemory new = Unit {0}
+HaltsAs o (Refused c) new = o ≡ Err c new
 
-abbrev pub Reads : {A B : Type 0} → (B → A) → Read A → Result B Halt → List Token → Type 0
+abbrev pub Reads : {A B : Type 0} → (B → A) → ReadOutcome A → Result B Halt → List Token → Type 0
 Reads view o (std.Ok b) new = o ≡ Ok (view b) new
-Reads view o (std.Err h) new = FailsAs o h new
+Reads view o (std.Err h) new = HaltsAs o h new

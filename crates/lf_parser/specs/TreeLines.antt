@@ -1,7 +1,7 @@
 -- The lines of a tree's statements as they follow one another in it, and what it means that this is their order in the script.
 use Rattle.std.specs.Prelude.{◌≤◌, ℕ, eqb, ltb, List, [], ◌∷◌, ◌++◌, count_by, flat_map}
 use Rattle.lf_base.specs.Sets.{Member}
-use Rattle.lf_parser.specs.Risings.{Rising}
+use Rattle.lf_parser.specs.Ascending.{Ascending}
 use Rattle.lf_parser.specs.Plain.{PlainStmt, PlainBlock, PlainFunction, PlainTree, no_stmts, stmt}
 use Rattle.lf_parser.specs.Plain as plain
 
@@ -35,7 +35,7 @@ tree_lines tree = functions_lines tree.functions ++ block_lines tree.main
 
 -- main's lines rise, so do those of all functions and of each one, and no two statements have one line
 pub record LinesInOrder (tree : PlainTree) : Type 0 where
-  pub main : Rising ltb (block_lines tree.main)
-  pub functions : Rising ltb (functions_lines tree.functions)
-  pub each : (f : PlainFunction) → Member f tree.functions → Rising ltb (function_lines f)
+  pub main : Ascending ltb (block_lines tree.main)
+  pub functions : Ascending ltb (functions_lines tree.functions)
+  pub each : (f : PlainFunction) → Member f tree.functions → Ascending ltb (function_lines f)
   pub once : (line : ℕ) → count_by (eqb line) (tree_lines tree) ≤ 1

@@ -3,7 +3,7 @@ use Rattle.std.specs.Prelude.{◌≤◌, ◌&&◌, ◌||◌, eqb, ltb, Bool, Lis
 use Rattle.lf_base.specs.declared.refusals.Place.{Place}
 use Rattle.lf_base.specs.Sets.{Member}
 use Rattle.lf_parser.specs.declared.name.Name.{Name}
-use Rattle.lf_parser.specs.Risings.{Rising}
+use Rattle.lf_parser.specs.Ascending.{Ascending}
 use Rattle.lf_parser.specs.Plain.{PlainExpr, PlainArgs, PlainStmt, PlainBlock, PlainFunction, PlainTree, no_args, arg, no_stmts, stmt}
 use Rattle.lf_parser.specs.Plain as plain
 
@@ -77,7 +77,7 @@ stands_at place x = same_place place x.place
 
 -- main's names rise by their places, so do those of all functions and of each one, and no two names have one place
 pub record NamesInOrder (tree : PlainTree) : Type 0 where
-  pub main : Rising stands_before (block_names tree.main)
-  pub functions : Rising stands_before (functions_names tree.functions)
-  pub each : (f : PlainFunction) → Member f tree.functions → Rising stands_before (function_names f)
+  pub main : Ascending stands_before (block_names tree.main)
+  pub functions : Ascending stands_before (functions_names tree.functions)
+  pub each : (f : PlainFunction) → Member f tree.functions → Ascending stands_before (function_names f)
   pub once : (place : Place) → count_by (stands_at place) (tree_names tree) ≤ 1

@@ -9,9 +9,9 @@ use Rattle.lf_lexer.specs.declared.tokens.Lexeme.TheVariants as lexeme
 use Rattle.lf_lexer.specs.declared.tokens.Mark.{Mark}
 use Rattle.lf_lexer.specs.declared.tokens.Mark.TheVariants as mark
 use Rattle.lf_parser.specs.declared.name.Name.{Name}
-use Rattle.lf_parser.specs.declared.grammar.Level.{Level}
-use Rattle.lf_parser.specs.declared.grammar.Level.TheVariants as level
-use Rattle.lf_parser.specs.Kinds.{is, mark_kind}
+use Rattle.lf_parser.specs.declared.expressions.Level.{Level}
+use Rattle.lf_parser.specs.declared.expressions.Level.TheVariants as level
+use Rattle.lf_parser.specs.Kinds.{is, mark_kind, DEDENT, END, INDENT, NEW_LINE}
 use Rattle.lf_parser.specs.Plain.{PlainExpr}
 use Rattle.lf_parser.specs.Plain as plain
 
@@ -24,24 +24,24 @@ abbrev pub mark_of : Mark → Token → Option Token
 mark_of m t = of_kind (mark_kind m) t
 
 abbrev pub new_line : Token → Option Token
-new_line t = of_kind 1 t
+new_line t = of_kind NEW_LINE t
 
 abbrev pub indent : Token → Option Token
-indent t = of_kind 2 t
+indent t = of_kind INDENT t
 
 abbrev pub dedent : Token → Option Token
-dedent t = of_kind 3 t
+dedent t = of_kind DEDENT t
 
 abbrev pub the_end : Token → Option Token
-the_end t = of_kind 0 t
+the_end t = of_kind END t
 
-abbrev pub named : Lexeme → Place → Option Name
-named (lexeme.Name id) place = Some (record { id = id; place = place })
-named _ place = None
+abbrev pub name_at : Lexeme → Place → Option Name
+name_at (lexeme.Name id) place = Some (record { id = id; place = place })
+name_at _ place = None
 
 -- a name, with its place
 abbrev pub name_of : Token → Option Name
-name_of t = named t.lexeme t.place
+name_of t = name_at t.lexeme t.place
 
 abbrev pub literal : Lexeme → Option PlainExpr
 literal (lexeme.Number n) = Some (plain.Number n)
@@ -78,6 +78,6 @@ is_some (Some a) = true
 is_some None = false
 
 -- whether the next token is an operator of this level
-abbrev pub joins : Level → Option Token → Bool
-joins level None = false
-joins level (Some t) = is_some (operator_of level t)
+abbrev pub is_operator : Level → Option Token → Bool
+is_operator level None = false
+is_operator level (Some t) = is_some (operator_of level t)

@@ -1,21 +1,19 @@
 ghost use Rattle.std.specs.Prelude.{◌≡◌};
-ghost use Rattle.lf_parser.specs.Kinds.{head, is, mark_kind};
+ghost use Rattle.lf_parser.specs.Kinds.{head, is, mark_kind, DEDENT, END, NAME, NEW_LINE};
 ghost use Rattle.lf_parser.specs.Parsers.{Reads, allow, take};
 ghost use Rattle.lf_parser.specs.Plain.{plain_expr};
-ghost use Rattle.lf_parser.specs.Reading.{sign, a_literal, a_name, at_suffix, line_at, separator, sixteen};
+ghost use Rattle.lf_parser.specs.ReadingFunctions.{sign, a_literal, a_name, at_suffix, line_at, separator};
 ghost use Rattle.lf_parser.specs.Words as words;
+ghost use Rattle.lf_parser.specs.Limits.{part_fits};
 
 use crate::expr::Expr;
-use crate::grammar::Level;
+use crate::expressions::Level;
 use crate::halt::{Cause, Halt};
 use crate::name::Name;
 use crate::words::{is_mark, literal_of, name_of, operator_of};
-use lf_base::Op;
+use lf_base::{MOST_PARTS, Op};
 use lf_lexer::{Lexeme, Mark, Token};
 use std::marker::Model;
-
-/// The most parameters, arguments, cown names or captures of one list.
-const MOST_PARTS: usize = 16;
 
 /// The tokens that are still to be read. Where a call refuses, it stands at the
 /// refused token.
@@ -73,7 +71,7 @@ impl<'a> Cursor<'a> {
 
     /// Whether the next token is a name.
     pub fn is_name(&self) -> bool
-        ensures { result ≡ is 22 (head self.now) }
+        ensures { result ≡ is NAME (head self.now) }
     {
         match self.peek() {
             Some(token) => matches!(token.lexeme, Lexeme::Name(_)),
@@ -83,7 +81,7 @@ impl<'a> Cursor<'a> {
 
     /// Whether the next token ends a line.
     pub fn is_line_end(&self) -> bool
-        ensures { result ≡ is 1 (head self.now) }
+        ensures { result ≡ is NEW_LINE (head self.now) }
     {
         match self.peek() {
             Some(token) => token.lexeme == Lexeme::NewLine,
@@ -93,7 +91,7 @@ impl<'a> Cursor<'a> {
 
     /// Whether the next token ends a block.
     pub fn is_dedent(&self) -> bool
-        ensures { result ≡ is 3 (head self.now) }
+        ensures { result ≡ is DEDENT (head self.now) }
     {
         match self.peek() {
             Some(token) => token.lexeme == Lexeme::Dedent,
@@ -103,7 +101,7 @@ impl<'a> Cursor<'a> {
 
     /// Whether the next token is the end of the script, or no token is left.
     pub fn is_end(&self) -> bool
-        ensures { result ≡ is 0 (head self.now) }
+        ensures { result ≡ is END (head self.now) }
     {
         match self.peek() {
             Some(token) => token.lexeme == Lexeme::End,
@@ -145,10 +143,10 @@ impl<'a> Cursor<'a> {
         self.allow(mark, true, Cause::Unexpected)
     }
 
-    /// Takes the comma behind so many parts of a list.
-    #[tactic(auto, unfolding(crate::specs::Reading::separator))]
+    /// Takes the comma after so many parts of a list.
+    #[tactic(auto, unfolding(crate::specs::ReadingFunctions::separator))]
     pub fn separator(&mut self, count: usize) -> Result<Token, Halt>
-        ensures { Reads (λ t. t) (separator sixteen count self.old) result self.new }
+        ensures { Reads (λ t. t) (separator part_fits count self.old) result self.new }
     {
         self.allow(Mark::Comma, count < MOST_PARTS, Cause::TooMany)
     }
@@ -168,7 +166,7 @@ impl<'a> Cursor<'a> {
     }
 
     /// Takes a number, a text, `None`, `True` or `False`.
-    #[tactic(auto, unfolding(crate::specs::Reading::a_literal))]
+    #[tactic(auto, unfolding(crate::specs::ReadingFunctions::a_literal))]
     pub fn literal(&mut self) -> Result<Expr, Halt>
         ensures { Reads plain_expr (a_literal self.old) result self.new }
     {
@@ -183,8 +181,8 @@ impl<'a> Cursor<'a> {
     }
 
     /// Whether the next token is an operator of this level.
-    pub fn joins(&self, level: Level) -> bool
-        ensures { result ≡ words.joins level (head self.now) }
+    pub fn is_operator(&self, level: Level) -> bool
+        ensures { result ≡ words.is_operator level (head self.now) }
     {
         match self.peek() {
             Some(token) => operator_of(level, token).is_some(),

@@ -87,7 +87,7 @@ impl Drop for Expr {
 impl Expr {
     /// A place as `move` takes it. What is no place stays as it is.
     pub(crate) fn moved(self) -> Expr
-        ensures { plain_expr result ≡ grammar.moved (plain_expr self) }
+        ensures { plain_expr result ≡ grammar.moved_place (plain_expr self) }
     {
         match self {
             Expr::Var(name) => Expr::Move(name),

@@ -1,16 +1,15 @@
 //! What was proved of trees and refusals, whatever reads them.
 
-ghost use Rattle.std.specs.Prelude.{◌⊎◌, ℕ, List};
+ghost use Rattle.std.specs.Prelude.{ℕ, List};
 ghost use Rattle.lf_base.specs.declared.ids.TextId.{TextId};
-ghost use Rattle.lf_base.specs.declared.refusals.Refusal.{Refusal};
-ghost use Rattle.lf_parser.specs.Laws.{ElifAlone, FieldsByText, OneRefusal, OneTree, TreeOrRefusal};
+ghost use Rattle.lf_parser.specs.Laws.{ElifAlone, FieldsByText, HasTreeOrRefusal, HoldsOfReadTrees, OneRefusal, OneTree, TreeOrRefusal};
 ghost use Rattle.lf_base.specs.Texts.{Text};
 ghost use Rattle.lf_lexer.specs.declared.tokens.Token.{Token};
 ghost use Rattle.lf_lexer.specs.LineOrder.{OnLines};
-ghost use Rattle.lf_lexer.specs.Order.{InOrder};
+ghost use Rattle.lf_lexer.specs.Order.{InTokenOrder};
 ghost use Rattle.lf_lexer.specs.Reading.{AreSpelled};
 ghost use Rattle.lf_parser.specs.Plain.{PlainExpr, PlainTree};
-ghost use Rattle.lf_parser.specs.Refusals.{Derives, EndsOnce, IsRefusal, IsTree, Readable};
+ghost use Rattle.lf_parser.specs.Refusals.{Derives, EndsOnce, Readable};
 ghost use Rattle.lf_parser.specs.TreeLines.{LinesInOrder};
 ghost use Rattle.lf_parser.specs.TreeNames.{NamesInOrder};
 
@@ -25,7 +24,7 @@ pub fn one_answer()
 
 /// Tokens whose last one alone is the end make a tree within the limits, or have a refusal.
 pub fn trees_or_refusals()
-    ensures { (tokens : List Token) → EndsOnce tokens → ((tree : PlainTree) × IsTree tokens tree) ⊎ ((refusal : Refusal) × IsRefusal tokens refusal) }
+    ensures { (tokens : List Token) → EndsOnce tokens → HasTreeOrRefusal tokens }
 {}
 
 /// `x.f` and `x["f"]` are one form, and an `elif` is an `if` that stands alone in
@@ -46,15 +45,15 @@ pub fn spelled_tokens_are_readable()
 /// holds of each tree that is derived from tokens in order, so of each that `parse`
 /// reads from a script.
 pub fn names_stand_in_order()
-    ensures derived { (tokens : List Token) (tree : PlainTree) → InOrder 1 1 0 tokens → Derives tokens tree → NamesInOrder tree }
-    ensures read { (tokens : List Token) (texts : List Text) (tree : PlainTree) → AreSpelled tokens texts → IsTree tokens tree → NamesInOrder tree }
+    ensures derived { (tokens : List Token) (tree : PlainTree) → InTokenOrder 1 1 0 tokens → Derives tokens tree → NamesInOrder tree }
+    ensures read { HoldsOfReadTrees NamesInOrder }
 {}
 
 /// The lines of a tree's statements rise in main and in the functions, the statements in
-/// a statement behind it, and no two statements have one line. That holds where no token
+/// a statement after it, and no two statements have one line. That holds where no token
 /// stands on an earlier line than the one before it, and none on a line that has ended, so
 /// of each tree that `parse` reads from a script.
 pub fn lines_stand_in_order()
     ensures derived { (tokens : List Token) (tree : PlainTree) → OnLines 1 tokens → Derives tokens tree → LinesInOrder tree }
-    ensures read { (tokens : List Token) (texts : List Text) (tree : PlainTree) → AreSpelled tokens texts → IsTree tokens tree → LinesInOrder tree }
+    ensures read { HoldsOfReadTrees LinesInOrder }
 {}

@@ -9,7 +9,7 @@
 mod arm;
 mod cursor;
 mod expr;
-mod grammar;
+mod expressions;
 mod halt;
 pub mod laws;
 mod lines;
@@ -29,8 +29,3 @@ pub use name::{Name, Names};
 pub use parsing::parse;
 pub use stmt::{Block, Stmt};
 pub use tree::{Function, Functions, Tree};
-
-#[cfg(test)]
-mod script_rows;
-#[cfg(test)]
-mod tests;

@@ -1,15 +1,15 @@
 ghost use Rattle.std.specs.Prelude.{◌≡◌, ◌≤◌, MatchOption};
+ghost use Rattle.lf_base.specs.declared.limits.TheConstants.{MOST_LINE_TOKENS};
 ghost use Rattle.lf_parser.specs.Refusals as spec;
 
+use lf_base::MOST_LINE_TOKENS;
 use lf_lexer::{Lexeme, Token};
 
-/// The most tokens of one line. Line ends and changes of indentation don't count.
-const MOST_LINE_TOKENS: usize = 1024;
-
-/// How many tokens of its line have come, after one token more.
-fn counted(count: usize, lexeme: Lexeme) -> usize
-    requires { count ≤ 1024 }
-    ensures { result ≡ spec.counted count lexeme }
+/// How many tokens of its line have come, after one token more. Line ends and changes of
+/// indentation don't count.
+fn count_after(count: usize, lexeme: Lexeme) -> usize
+    requires { count ≤ MOST_LINE_TOKENS }
+    ensures { result ≡ spec.count_after count lexeme }
 {
     match lexeme {
         Lexeme::NewLine => 0,
@@ -24,7 +24,7 @@ pub fn first_past(tokens: &[Token]) -> Option<usize>
 {
     let mut count = 0;
     for (index, token) in tokens.iter().enumerate() {
-        count = counted(count, token.lexeme);
+        count = count_after(count, token.lexeme);
         if count > MOST_LINE_TOKENS {
             return Some(index);
         }

@@ -1,6 +1,6 @@
 ghost use Rattle.std.specs.Prelude.{◌≡◌, IfErr, IfOk};
 ghost use Rattle.lf_parser.specs.Plain.{plain_tree};
-ghost use Rattle.lf_parser.specs.Refusals.{FailsAs, IsFirstPast, IsRefusal, IsTree, LinesFit, Readable, Stops};
+ghost use Rattle.lf_parser.specs.Refusals.{ParseFailsAs, IsFirstPast, IsRefusal, IsTree, LinesFit, Readable, GrammarRefuses};
 ghost use Rattle.lf_parser.specs.Refusals as spec;
 
 use crate::cursor::Cursor;
@@ -17,11 +17,11 @@ use std::alloc::Global;
 /// `Refused` comes exactly where no tree within the limits is derived from the
 /// tokens, with the first token with which they begin no such script:
 /// `Unexpected` where they begin no script at all, else `TooDeepExpr` where they
-/// begin none of at most 64 levels, else `TooManyParts`. `OutOfMemory` is free.
+/// begin none with so few levels as the language has, else `TooManyParts`. `OutOfMemory` is free.
 pub fn parse(alloc: Global, lexed: &Lexed) -> Result<Tree, ReadFail>
     requires { Readable lexed.now.tokens }
     ensures tree { IfOk result (λ tree. IsTree lexed.now.tokens (plain_tree tree)) }
-    ensures refused { IfErr result (FailsAs lexed.now.tokens) }
+    ensures refused { IfErr result (ParseFailsAs lexed.now.tokens) }
 {
     let tokens = lexed.tokens.as_slice();
     match first_past(tokens) {
@@ -35,7 +35,7 @@ fn whole(alloc: Global, tokens: &[Token]) -> Result<Tree, ReadFail>
     requires readable { Readable tokens.now }
     requires fits { LinesFit tokens.now }
     ensures tree { IfOk result (λ tree. IsTree tokens.now (plain_tree tree)) }
-    ensures refused { IfErr result (FailsAs tokens.now) }
+    ensures refused { IfErr result (ParseFailsAs tokens.now) }
 {
     let mut cursor = Cursor::new(tokens);
     match read_script(alloc, &mut cursor, tokens.len() + 1) {
@@ -47,19 +47,19 @@ fn whole(alloc: Global, tokens: &[Token]) -> Result<Tree, ReadFail>
 
 /// The grammar's refusal, at the first of the tokens left.
 fn refusal(tokens: &[Token], left: &[Token], cause: Cause) -> Refusal
-    requires stops { Stops tokens.now cause left.now }
+    requires stops { GrammarRefuses tokens.now cause left.now }
     requires fits { LinesFit tokens.now }
     ensures { IsRefusal tokens.now result }
 {
     stopped(cause, left[0])
 }
 
-/// The refusal of tokens of which this one is the first that is too many on its line. Those behind
+/// The refusal of tokens of which this one is the first that is too many on its line. Those after
 /// it aren't read, so that no tree is deeper than a line allows.
 fn long_line(alloc: Global, tokens: &[Token], index: usize) -> ReadFail
     requires readable { Readable tokens.now }
     requires past { IsFirstPast tokens.now index }
-    ensures { FailsAs tokens.now result }
+    ensures { ParseFailsAs tokens.now result }
 {
     let mut cursor = Cursor::new(&tokens[..index + 1]);
     match read_script(alloc, &mut cursor, index + 2) {

@@ -1,14 +1,14 @@
 //! The rules of functions and whole scripts.
 
 ghost use Rattle.std.specs.Prelude.{◌≡◌, ◌⊎◌, Err, IfOk, IsOk, map};
-ghost use Rattle.lf_parser.specs.Blocks.{ReadsBlocks};
+ghost use Rattle.lf_parser.specs.ReadsBlocks.{ReadsBlocks};
 ghost use Rattle.lf_parser.specs.Grammar.{with_function, with_stmt};
 ghost use Rattle.lf_parser.specs.Parsers.{Reads};
 ghost use Rattle.lf_parser.specs.Plain.{plain_function, plain_stmt, plain_tree};
-ghost use Rattle.lf_parser.specs.Reading as spec;
-ghost use Rattle.lf_parser.specs.Reading.{sixteen};
-ghost use Rattle.lf_parser.specs.Trees.{items_of};
+ghost use Rattle.lf_parser.specs.ReadingFunctions as spec;
+ghost use Rattle.lf_parser.specs.GrowingTrees.{items_of};
 ghost use Rattle.lf_parser.specs.declared.halt.Halt.TheVariants as halt;
+ghost use Rattle.lf_parser.specs.Limits.{within_limits};
 
 use crate::cursor::Cursor;
 use crate::halt::Halt;
@@ -44,10 +44,10 @@ fn plus_stmt(tree: Tree, stmt: Stmt) -> Result<Tree, Halt>
 
 impl<F: Fn(Global, &mut Cursor<'_>, usize) -> Result<Block, Halt>> Statements<F> {
     /// A function.
-    #[tactic(auto, unfolding(crate::specs::Reading::def))]
+    #[tactic(auto, unfolding(crate::specs::ReadingFunctions::def))]
     fn def(&self, cursor: &mut Cursor<'_>) -> Result<Function, Halt>
         requires { ReadsBlocks (F.pre self.now.deeper) (F.post self.now.deeper) self.now.nest }
-        ensures { Reads plain_function (spec.def sixteen 32 64 self.now.nest cursor.old) result cursor.new }
+        ensures { Reads plain_function (within_limits spec.def self.now.nest cursor.old) result cursor.new }
     {
         cursor.sign(Mark::Def)?;
         let name = cursor.name()?;
@@ -58,28 +58,28 @@ impl<F: Fn(Global, &mut Cursor<'_>, usize) -> Result<Block, Halt>> Statements<F>
         Ok(Function { name, params, body })
     }
 
-    #[tactic(auto, unfolding(crate::specs::Reading::def_item))]
+    #[tactic(auto, unfolding(crate::specs::ReadingFunctions::def_item))]
     fn def_item(&self, cursor: &mut Cursor<'_>, tree: Tree) -> Result<Tree, Halt>
         requires { ReadsBlocks (F.pre self.now.deeper) (F.post self.now.deeper) self.now.nest }
-        ensures { Reads items_of (spec.def_item sixteen 32 64 self.now.nest (items_of tree) cursor.old) result cursor.new }
+        ensures { Reads items_of (within_limits spec.def_item self.now.nest (items_of tree) cursor.old) result cursor.new }
     {
         let function = self.def(cursor)?;
         plus_function(tree, function)
     }
 
-    #[tactic(auto, unfolding(crate::specs::Reading::stmt_item))]
+    #[tactic(auto, unfolding(crate::specs::ReadingFunctions::stmt_item))]
     fn stmt_item(&self, cursor: &mut Cursor<'_>, tree: Tree) -> Result<Tree, Halt>
         requires { ReadsBlocks (F.pre self.now.deeper) (F.post self.now.deeper) self.now.nest }
-        ensures { Reads items_of (spec.stmt_item sixteen 32 64 self.now.nest (items_of tree) cursor.old) result cursor.new }
+        ensures { Reads items_of (within_limits spec.stmt_item self.now.nest (items_of tree) cursor.old) result cursor.new }
     {
         let stmt = self.stmt(cursor)?;
         plus_stmt(tree, stmt)
     }
 
-    #[tactic(auto, unfolding(crate::specs::Reading::item))]
+    #[tactic(auto, unfolding(crate::specs::ReadingFunctions::item))]
     fn item(&self, cursor: &mut Cursor<'_>, tree: Tree) -> Result<Tree, Halt>
         requires { ReadsBlocks (F.pre self.now.deeper) (F.post self.now.deeper) self.now.nest }
-        ensures { Reads items_of (spec.item sixteen 32 64 self.now.nest (items_of tree) cursor.old) result cursor.new }
+        ensures { Reads items_of (within_limits spec.item self.now.nest (items_of tree) cursor.old) result cursor.new }
     {
         if cursor.is_mark(Mark::Def) {
             return self.def_item(cursor, tree);
@@ -88,10 +88,10 @@ impl<F: Fn(Global, &mut Cursor<'_>, usize) -> Result<Block, Halt>> Statements<F>
     }
 
     /// Functions and statements up to the end of the script.
-    #[tactic(auto, using(crate::proofs::Steps::item_turns, crate::proofs::Steps::item_short))]
+    #[tactic(auto, using(crate::proofs::Rules::LoopSteps::item_unrolls, crate::proofs::Rules::LoopSteps::item_short))]
     fn items_from(&self, cursor: &mut Cursor<'_>, first: Tree) -> Result<Tree, Halt>
         requires { ReadsBlocks (F.pre self.now.deeper) (F.post self.now.deeper) self.now.nest }
-        ensures { Reads items_of (spec.items_from sixteen 32 64 self.now.nest (items_of first) cursor.old) result cursor.new }
+        ensures { Reads items_of (within_limits spec.items_from self.now.nest (items_of first) cursor.old) result cursor.new }
     {
         let mut tree = first;
         while !cursor.is_end() {
@@ -101,10 +101,10 @@ impl<F: Fn(Global, &mut Cursor<'_>, usize) -> Result<Block, Halt>> Statements<F>
     }
 
     /// A whole script.
-    #[tactic(auto, unfolding(crate::specs::Reading::script))]
+    #[tactic(auto, unfolding(crate::specs::ReadingFunctions::a_script))]
     fn script(&self, cursor: &mut Cursor<'_>) -> Result<Tree, Halt>
         requires { ReadsBlocks (F.pre self.now.deeper) (F.post self.now.deeper) self.now.nest }
-        ensures { Reads plain_tree (spec.script sixteen 32 64 self.now.nest cursor.old) result cursor.new }
+        ensures { Reads plain_tree (within_limits spec.a_script self.now.nest cursor.old) result cursor.new }
     {
         let nothing = Tree {
             functions: Functions::new(self.alloc),
@@ -118,7 +118,7 @@ impl<F: Fn(Global, &mut Cursor<'_>, usize) -> Result<Block, Halt>> Statements<F>
 
 /// Reads a whole script in which blocks may stand so deep one in another.
 pub fn read_script(alloc: Global, cursor: &mut Cursor<'_>, nest: usize) -> Result<Tree, Halt>
-    ensures { Reads plain_tree (spec.script sixteen 32 64 nest cursor.old) result cursor.new }
+    ensures { Reads plain_tree (within_limits spec.a_script nest cursor.old) result cursor.new }
 {
     let statements = Statements {
         alloc,

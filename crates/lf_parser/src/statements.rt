@@ -2,29 +2,25 @@
 //! that it is handed, so that each is proved by itself.
 
 ghost use Rattle.std.specs.Prelude.{◌≡◌, ◌-◌, map};
-ghost use Rattle.lf_parser.specs.Blocks.{ReadsBlocks};
+ghost use Rattle.lf_parser.specs.ReadsBlocks.{ReadsBlocks};
 ghost use Rattle.lf_parser.specs.Parsers.{Reads};
 ghost use Rattle.lf_parser.specs.Plain.{plain_expr, plain_value, plain_stmt, plain_arm};
-ghost use Rattle.lf_parser.specs.Reading as spec;
-ghost use Rattle.lf_parser.specs.Reading.{sixteen, blocks};
+ghost use Rattle.lf_parser.specs.ReadingFunctions as spec;
+ghost use Rattle.lf_parser.specs.ReadingFunctions.{blocks};
+ghost use Rattle.lf_parser.specs.Limits.{within_blocks, within_limits};
 
 use crate::arm::Arm;
 use crate::cursor::Cursor;
 use crate::expr::Expr;
-use crate::grammar::{Entry, call, read, rest_of, suffixes};
+use crate::expressions::{Entry, call, read, rest_of, suffixes};
 use crate::halt::{Cause, Halt};
 use crate::lists::with;
 use crate::name::{Name, Names};
 use crate::names::{names, some_names};
 use crate::stmt::{Block, Stmt};
+use lf_base::{MOST_ELIFS, MOST_EXPRESSION_LEVELS};
 use lf_lexer::Mark;
 use std::alloc::Global;
-
-/// The most levels that may be open in an expression.
-const MOST_LEVELS: usize = 64;
-
-/// The most `elif`s of one chain.
-const MOST_ELIFS: usize = 32;
 
 /// The rules of statements, where blocks may stand so deep one in another.
 #[derive(Clone, Copy)]
@@ -36,18 +32,18 @@ pub struct Statements<F> {
 
 impl<F: Fn(Global, &mut Cursor<'_>, usize) -> Result<Block, Halt>> Statements<F> {
     /// Reads an expression.
-    #[tactic(auto, unfolding(crate::specs::Reading::an_expr))]
+    #[tactic(auto, unfolding(crate::specs::ReadingFunctions::an_expr))]
     fn an_expr(&self, cursor: &mut Cursor<'_>) -> Result<Expr, Halt>
-        ensures { Reads plain_expr (spec.an_expr sixteen 32 64 (blocks sixteen 32 64 self.now.nest) cursor.old) result cursor.new }
+        ensures { Reads plain_expr (within_blocks spec.an_expr self.now.nest cursor.old) result cursor.new }
     {
-        read(self.alloc, cursor, MOST_LEVELS, Entry::WholeExpr)
+        read(self.alloc, cursor, MOST_EXPRESSION_LEVELS, Entry::WholeExpr)
     }
 
     /// Reads a block one deeper.
-    #[tactic(auto, unfolding(crate::specs::Reading::blocks))]
+    #[tactic(auto, unfolding(crate::specs::ReadingFunctions::blocks))]
     fn block(&self, cursor: &mut Cursor<'_>) -> Result<Block, Halt>
         requires { ReadsBlocks (F.pre self.now.deeper) (F.post self.now.deeper) self.now.nest }
-        ensures { Reads (map plain_stmt) (blocks sixteen 32 64 self.now.nest cursor.old) result cursor.new }
+        ensures { Reads (map plain_stmt) (within_limits blocks self.now.nest cursor.old) result cursor.new }
     {
         if self.nest == 0 {
             return Err(Halt::Refused(Cause::Unexpected));
@@ -56,29 +52,29 @@ impl<F: Fn(Global, &mut Cursor<'_>, usize) -> Result<Block, Halt>> Statements<F>
     }
 
     /// `:` and a block.
-    #[tactic(auto, unfolding(crate::specs::Reading::body))]
+    #[tactic(auto, unfolding(crate::specs::ReadingFunctions::body))]
     pub fn body(&self, cursor: &mut Cursor<'_>) -> Result<Block, Halt>
         requires { ReadsBlocks (F.pre self.now.deeper) (F.post self.now.deeper) self.now.nest }
-        ensures { Reads (map plain_stmt) (spec.body sixteen 32 64 (blocks sixteen 32 64 self.now.nest) cursor.old) result cursor.new }
+        ensures { Reads (map plain_stmt) (within_blocks spec.body self.now.nest cursor.old) result cursor.new }
     {
         cursor.sign(Mark::Colon)?;
         self.block(cursor)
     }
 
-    #[tactic(auto, unfolding(crate::specs::Reading::else_body))]
+    #[tactic(auto, unfolding(crate::specs::ReadingFunctions::else_body))]
     fn else_body(&self, cursor: &mut Cursor<'_>) -> Result<Block, Halt>
         requires { ReadsBlocks (F.pre self.now.deeper) (F.post self.now.deeper) self.now.nest }
-        ensures { Reads (map plain_stmt) (spec.else_body sixteen 32 64 (blocks sixteen 32 64 self.now.nest) cursor.old) result cursor.new }
+        ensures { Reads (map plain_stmt) (within_blocks spec.else_body self.now.nest cursor.old) result cursor.new }
     {
         cursor.sign(Mark::Else)?;
         self.body(cursor)
     }
 
     /// An `else` with its block, or nothing.
-    #[tactic(auto, unfolding(crate::specs::Reading::otherwise))]
+    #[tactic(auto, unfolding(crate::specs::ReadingFunctions::otherwise))]
     fn otherwise(&self, cursor: &mut Cursor<'_>) -> Result<Block, Halt>
         requires { ReadsBlocks (F.pre self.now.deeper) (F.post self.now.deeper) self.now.nest }
-        ensures { Reads (map plain_stmt) (spec.otherwise sixteen 32 64 (blocks sixteen 32 64 self.now.nest) cursor.old) result cursor.new }
+        ensures { Reads (map plain_stmt) (within_blocks spec.otherwise self.now.nest cursor.old) result cursor.new }
     {
         if cursor.is_mark(Mark::Else) {
             return self.else_body(cursor);
@@ -87,10 +83,10 @@ impl<F: Fn(Global, &mut Cursor<'_>, usize) -> Result<Block, Halt>> Statements<F>
     }
 
     /// A word, a test and a block.
-    #[tactic(auto, unfolding(crate::specs::Reading::arm))]
+    #[tactic(auto, unfolding(crate::specs::ReadingFunctions::arm))]
     fn arm(&self, cursor: &mut Cursor<'_>, mark: Mark) -> Result<Arm, Halt>
         requires { ReadsBlocks (F.pre self.now.deeper) (F.post self.now.deeper) self.now.nest }
-        ensures { Reads plain_arm (spec.arm sixteen 32 64 (blocks sixteen 32 64 self.now.nest) mark cursor.old) result cursor.new }
+        ensures { Reads plain_arm (within_blocks spec.arm self.now.nest mark cursor.old) result cursor.new }
     {
         let word = cursor.sign(mark)?;
         let test = self.an_expr(cursor)?;
@@ -102,11 +98,11 @@ impl<F: Fn(Global, &mut Cursor<'_>, usize) -> Result<Block, Halt>> Statements<F>
         })
     }
 
-    /// The rest of a chain behind an `if`, where so many more `elif`s may come.
-    #[tactic(auto, unfolding(crate::specs::Reading::rest))]
+    /// The rest of a chain after an `if`, where so many more `elif`s may come.
+    #[tactic(auto, unfolding(crate::specs::ReadingFunctions::chain_rest))]
     fn rest(&self, cursor: &mut Cursor<'_>, more: usize) -> Result<Block, Halt>
         requires { ReadsBlocks (F.pre self.now.deeper) (F.post self.now.deeper) self.now.nest }
-        ensures { Reads (map plain_stmt) (spec.rest sixteen 32 64 (blocks sixteen 32 64 self.now.nest) more cursor.old) result cursor.new }
+        ensures { Reads (map plain_stmt) (within_blocks spec.chain_rest self.now.nest more cursor.old) result cursor.new }
     {
         if !cursor.is_mark(Mark::Elif) {
             return self.otherwise(cursor);
@@ -119,37 +115,37 @@ impl<F: Fn(Global, &mut Cursor<'_>, usize) -> Result<Block, Halt>> Statements<F>
         with(Block::new(self.alloc), arm.into_if(other))
     }
 
-    #[tactic(auto, unfolding(crate::specs::Reading::if_of))]
+    #[tactic(auto, unfolding(crate::specs::ReadingFunctions::if_of))]
     fn if_of(&self, cursor: &mut Cursor<'_>) -> Result<Stmt, Halt>
         requires { ReadsBlocks (F.pre self.now.deeper) (F.post self.now.deeper) self.now.nest }
-        ensures { Reads plain_stmt (spec.if_of sixteen 32 64 (blocks sixteen 32 64 self.now.nest) cursor.old) result cursor.new }
+        ensures { Reads plain_stmt (within_blocks spec.if_of self.now.nest cursor.old) result cursor.new }
     {
         let arm = self.arm(cursor, Mark::If)?;
         let other = self.rest(cursor, MOST_ELIFS)?;
         Ok(arm.into_if(other))
     }
 
-    #[tactic(auto, unfolding(crate::specs::Reading::while_of))]
+    #[tactic(auto, unfolding(crate::specs::ReadingFunctions::while_of))]
     fn while_of(&self, cursor: &mut Cursor<'_>) -> Result<Stmt, Halt>
         requires { ReadsBlocks (F.pre self.now.deeper) (F.post self.now.deeper) self.now.nest }
-        ensures { Reads plain_stmt (spec.while_of sixteen 32 64 (blocks sixteen 32 64 self.now.nest) cursor.old) result cursor.new }
+        ensures { Reads plain_stmt (within_blocks spec.while_of self.now.nest cursor.old) result cursor.new }
     {
         let arm = self.arm(cursor, Mark::While)?;
         Ok(arm.into_while())
     }
 
-    #[tactic(auto, unfolding(crate::specs::Reading::with_names))]
+    #[tactic(auto, unfolding(crate::specs::ReadingFunctions::with_names))]
     fn with_names(&self, cursor: &mut Cursor<'_>) -> Result<Names, Halt>
-        ensures { Reads (λ xs. xs) (spec.with_names sixteen 32 64 (blocks sixteen 32 64 self.now.nest) cursor.old) result cursor.new }
+        ensures { Reads (λ xs. xs) (within_blocks spec.with_names self.now.nest cursor.old) result cursor.new }
     {
         cursor.sign(Mark::With)?;
         names(self.alloc, cursor)
     }
 
     /// `with` and names, or nothing.
-    #[tactic(auto, unfolding(crate::specs::Reading::captures))]
+    #[tactic(auto, unfolding(crate::specs::ReadingFunctions::captures))]
     fn captures(&self, cursor: &mut Cursor<'_>) -> Result<Names, Halt>
-        ensures { Reads (λ xs. xs) (spec.captures sixteen 32 64 (blocks sixteen 32 64 self.now.nest) cursor.old) result cursor.new }
+        ensures { Reads (λ xs. xs) (within_blocks spec.captures self.now.nest cursor.old) result cursor.new }
     {
         if cursor.is_mark(Mark::With) {
             return self.with_names(cursor);
@@ -157,10 +153,10 @@ impl<F: Fn(Global, &mut Cursor<'_>, usize) -> Result<Block, Halt>> Statements<F>
         Ok(Names::new(self.alloc))
     }
 
-    #[tactic(auto, unfolding(crate::specs::Reading::when_of))]
+    #[tactic(auto, unfolding(crate::specs::ReadingFunctions::when_of))]
     fn when_of(&self, cursor: &mut Cursor<'_>) -> Result<Stmt, Halt>
         requires { ReadsBlocks (F.pre self.now.deeper) (F.post self.now.deeper) self.now.nest }
-        ensures { Reads plain_stmt (spec.when_of sixteen 32 64 (blocks sixteen 32 64 self.now.nest) cursor.old) result cursor.new }
+        ensures { Reads plain_stmt (within_blocks spec.when_of self.now.nest cursor.old) result cursor.new }
     {
         let word = cursor.sign(Mark::When)?;
         let cowns = some_names(self.alloc, cursor)?;
@@ -174,9 +170,9 @@ impl<F: Fn(Global, &mut Cursor<'_>, usize) -> Result<Block, Halt>> Statements<F>
         })
     }
 
-    #[tactic(auto, unfolding(crate::specs::Reading::drop_of))]
+    #[tactic(auto, unfolding(crate::specs::ReadingFunctions::drop_of))]
     fn drop_of(&self, cursor: &mut Cursor<'_>, line: u32) -> Result<Stmt, Halt>
-        ensures { Reads plain_stmt (spec.drop_of sixteen 32 64 (blocks sixteen 32 64 self.now.nest) line cursor.old) result cursor.new }
+        ensures { Reads plain_stmt (within_blocks spec.drop_of self.now.nest line cursor.old) result cursor.new }
     {
         cursor.sign(Mark::Drop)?;
         let name = cursor.name()?;
@@ -184,9 +180,9 @@ impl<F: Fn(Global, &mut Cursor<'_>, usize) -> Result<Block, Halt>> Statements<F>
     }
 
     /// An expression, or nothing before the line end.
-    #[tactic(auto, unfolding(crate::specs::Reading::result))]
+    #[tactic(auto, unfolding(crate::specs::ReadingFunctions::result))]
     fn result(&self, cursor: &mut Cursor<'_>) -> Result<Option<Expr>, Halt>
-        ensures { Reads plain_value (spec.result sixteen 32 64 (blocks sixteen 32 64 self.now.nest) cursor.old) result cursor.new }
+        ensures { Reads plain_value (within_blocks spec.result self.now.nest cursor.old) result cursor.new }
     {
         if cursor.is_line_end() {
             return Ok(None);
@@ -195,52 +191,52 @@ impl<F: Fn(Global, &mut Cursor<'_>, usize) -> Result<Block, Halt>> Statements<F>
         Ok(Some(value))
     }
 
-    #[tactic(auto, unfolding(crate::specs::Reading::return_of))]
+    #[tactic(auto, unfolding(crate::specs::ReadingFunctions::return_of))]
     fn return_of(&self, cursor: &mut Cursor<'_>, line: u32) -> Result<Stmt, Halt>
-        ensures { Reads plain_stmt (spec.return_of sixteen 32 64 (blocks sixteen 32 64 self.now.nest) line cursor.old) result cursor.new }
+        ensures { Reads plain_stmt (within_blocks spec.return_of self.now.nest line cursor.old) result cursor.new }
     {
         cursor.sign(Mark::Return)?;
         let value = self.result(cursor)?;
         Ok(Stmt::Return { line, value })
     }
 
-    #[tactic(auto, unfolding(crate::specs::Reading::pass_of))]
+    #[tactic(auto, unfolding(crate::specs::ReadingFunctions::pass_of))]
     fn pass_of(&self, cursor: &mut Cursor<'_>, line: u32) -> Result<Stmt, Halt>
-        ensures { Reads plain_stmt (spec.pass_of sixteen 32 64 (blocks sixteen 32 64 self.now.nest) line cursor.old) result cursor.new }
+        ensures { Reads plain_stmt (within_blocks spec.pass_of self.now.nest line cursor.old) result cursor.new }
     {
         cursor.sign(Mark::Pass)?;
         Ok(Stmt::Pass { line })
     }
 
-    #[tactic(auto, unfolding(crate::specs::Reading::eval_of))]
+    #[tactic(auto, unfolding(crate::specs::ReadingFunctions::eval_of))]
     fn eval_of(&self, cursor: &mut Cursor<'_>, line: u32) -> Result<Stmt, Halt>
-        ensures { Reads plain_stmt (spec.eval_of sixteen 32 64 (blocks sixteen 32 64 self.now.nest) line cursor.old) result cursor.new }
+        ensures { Reads plain_stmt (within_blocks spec.eval_of self.now.nest line cursor.old) result cursor.new }
     {
         let value = self.an_expr(cursor)?;
         Ok(Stmt::Eval { line, value })
     }
 
-    /// An expression alone, behind its first operand.
-    #[tactic(auto, unfolding(crate::specs::Reading::eval_rest))]
+    /// An expression alone, after its first operand.
+    #[tactic(auto, unfolding(crate::specs::ReadingFunctions::eval_rest))]
     fn eval_rest(&self, cursor: &mut Cursor<'_>, line: u32, first: Expr) -> Result<Stmt, Halt>
-        ensures { Reads plain_stmt (spec.eval_rest sixteen 32 64 (blocks sixteen 32 64 self.now.nest) line (plain_expr first) cursor.old) result cursor.new }
+        ensures { Reads plain_stmt (within_blocks spec.eval_rest self.now.nest line (plain_expr first) cursor.old) result cursor.new }
     {
-        let value = rest_of(self.alloc, cursor, MOST_LEVELS, first)?;
+        let value = rest_of(self.alloc, cursor, MOST_EXPRESSION_LEVELS, first)?;
         Ok(Stmt::Eval { line, value })
     }
 
-    #[tactic(auto, unfolding(crate::specs::Reading::assign_to))]
+    #[tactic(auto, unfolding(crate::specs::ReadingFunctions::assign_to))]
     fn assign_to(&self, cursor: &mut Cursor<'_>, line: u32, place: Expr) -> Result<Stmt, Halt>
-        ensures { Reads plain_stmt (spec.assign_to sixteen 32 64 (blocks sixteen 32 64 self.now.nest) line (plain_expr place) cursor.old) result cursor.new }
+        ensures { Reads plain_stmt (within_blocks spec.assign_to self.now.nest line (plain_expr place) cursor.old) result cursor.new }
     {
         cursor.sign(Mark::Assign)?;
         let value = self.an_expr(cursor)?;
         Ok(place.assigned(line, value))
     }
 
-    #[tactic(auto, unfolding(crate::specs::Reading::behind_spot))]
-    fn behind_spot(&self, cursor: &mut Cursor<'_>, line: u32, place: Expr) -> Result<Stmt, Halt>
-        ensures { Reads plain_stmt (spec.behind_spot sixteen 32 64 (blocks sixteen 32 64 self.now.nest) line (plain_expr place) cursor.old) result cursor.new }
+    #[tactic(auto, unfolding(crate::specs::ReadingFunctions::after_place))]
+    fn after_place(&self, cursor: &mut Cursor<'_>, line: u32, place: Expr) -> Result<Stmt, Halt>
+        ensures { Reads plain_stmt (within_blocks spec.after_place self.now.nest line (plain_expr place) cursor.old) result cursor.new }
     {
         if cursor.is_mark(Mark::Assign) {
             return self.assign_to(cursor, line, place);
@@ -248,38 +244,38 @@ impl<F: Fn(Global, &mut Cursor<'_>, usize) -> Result<Block, Halt>> Statements<F>
         self.eval_rest(cursor, line, place)
     }
 
-    #[tactic(auto, unfolding(crate::specs::Reading::call_first))]
+    #[tactic(auto, unfolding(crate::specs::ReadingFunctions::call_first))]
     fn call_first(&self, cursor: &mut Cursor<'_>, line: u32, name: Name) -> Result<Stmt, Halt>
-        ensures { Reads plain_stmt (spec.call_first sixteen 32 64 (blocks sixteen 32 64 self.now.nest) line name cursor.old) result cursor.new }
+        ensures { Reads plain_stmt (within_blocks spec.call_first self.now.nest line name cursor.old) result cursor.new }
     {
-        let first = call(self.alloc, cursor, MOST_LEVELS, name)?;
-        let whole = suffixes(self.alloc, cursor, MOST_LEVELS, first)?;
+        let first = call(self.alloc, cursor, MOST_EXPRESSION_LEVELS, name)?;
+        let whole = suffixes(self.alloc, cursor, MOST_EXPRESSION_LEVELS, first)?;
         self.eval_rest(cursor, line, whole)
     }
 
-    #[tactic(auto, unfolding(crate::specs::Reading::spot_first))]
-    fn spot_first(&self, cursor: &mut Cursor<'_>, line: u32, name: Name) -> Result<Stmt, Halt>
-        ensures { Reads plain_stmt (spec.spot_first sixteen 32 64 (blocks sixteen 32 64 self.now.nest) line name cursor.old) result cursor.new }
+    #[tactic(auto, unfolding(crate::specs::ReadingFunctions::place_first))]
+    fn place_first(&self, cursor: &mut Cursor<'_>, line: u32, name: Name) -> Result<Stmt, Halt>
+        ensures { Reads plain_stmt (within_blocks spec.place_first self.now.nest line name cursor.old) result cursor.new }
     {
-        let place = suffixes(self.alloc, cursor, MOST_LEVELS, Expr::Var(name))?;
-        self.behind_spot(cursor, line, place)
+        let place = suffixes(self.alloc, cursor, MOST_EXPRESSION_LEVELS, Expr::Var(name))?;
+        self.after_place(cursor, line, place)
     }
 
     /// A statement that begins with a name: an assignment, or an expression.
-    #[tactic(auto, unfolding(crate::specs::Reading::name_first))]
+    #[tactic(auto, unfolding(crate::specs::ReadingFunctions::name_first))]
     fn name_first(&self, cursor: &mut Cursor<'_>, line: u32) -> Result<Stmt, Halt>
-        ensures { Reads plain_stmt (spec.name_first sixteen 32 64 (blocks sixteen 32 64 self.now.nest) line cursor.old) result cursor.new }
+        ensures { Reads plain_stmt (within_blocks spec.name_first self.now.nest line cursor.old) result cursor.new }
     {
         let name = cursor.name()?;
         if cursor.is_mark(Mark::OpenParen) {
             return self.call_first(cursor, line, name);
         }
-        self.spot_first(cursor, line, name)
+        self.place_first(cursor, line, name)
     }
 
-    #[tactic(auto, unfolding(crate::specs::Reading::simple))]
+    #[tactic(auto, unfolding(crate::specs::ReadingFunctions::simple))]
     fn simple(&self, cursor: &mut Cursor<'_>, line: u32) -> Result<Stmt, Halt>
-        ensures { Reads plain_stmt (spec.simple sixteen 32 64 (blocks sixteen 32 64 self.now.nest) line cursor.old) result cursor.new }
+        ensures { Reads plain_stmt (within_blocks spec.simple self.now.nest line cursor.old) result cursor.new }
     {
         if cursor.is_mark(Mark::Drop) {
             return self.drop_of(cursor, line);
@@ -297,9 +293,9 @@ impl<F: Fn(Global, &mut Cursor<'_>, usize) -> Result<Block, Halt>> Statements<F>
     }
 
     /// A simple statement, and its line end.
-    #[tactic(auto, unfolding(crate::specs::Reading::simple_line))]
+    #[tactic(auto, unfolding(crate::specs::ReadingFunctions::simple_line))]
     fn simple_line(&self, cursor: &mut Cursor<'_>) -> Result<Stmt, Halt>
-        ensures { Reads plain_stmt (spec.simple_line sixteen 32 64 (blocks sixteen 32 64 self.now.nest) cursor.old) result cursor.new }
+        ensures { Reads plain_stmt (within_blocks spec.simple_line self.now.nest cursor.old) result cursor.new }
     {
         let line = cursor.line();
         let stmt = self.simple(cursor, line)?;
@@ -308,10 +304,10 @@ impl<F: Fn(Global, &mut Cursor<'_>, usize) -> Result<Block, Halt>> Statements<F>
     }
 
     /// A statement.
-    #[tactic(auto, unfolding(crate::specs::Reading::stmt))]
+    #[tactic(auto, unfolding(crate::specs::ReadingFunctions::stmt))]
     pub fn stmt(&self, cursor: &mut Cursor<'_>) -> Result<Stmt, Halt>
         requires { ReadsBlocks (F.pre self.now.deeper) (F.post self.now.deeper) self.now.nest }
-        ensures { Reads plain_stmt (spec.stmt sixteen 32 64 (blocks sixteen 32 64 self.now.nest) cursor.old) result cursor.new }
+        ensures { Reads plain_stmt (within_blocks spec.stmt self.now.nest cursor.old) result cursor.new }
     {
         if cursor.is_mark(Mark::If) {
             return self.if_of(cursor);
@@ -325,20 +321,20 @@ impl<F: Fn(Global, &mut Cursor<'_>, usize) -> Result<Block, Halt>> Statements<F>
         self.simple_line(cursor)
     }
 
-    #[tactic(auto, unfolding(crate::specs::Reading::more_stmt))]
+    #[tactic(auto, unfolding(crate::specs::ReadingFunctions::more_stmt))]
     fn more_stmt(&self, cursor: &mut Cursor<'_>, stmts: Block) -> Result<Block, Halt>
         requires { ReadsBlocks (F.pre self.now.deeper) (F.post self.now.deeper) self.now.nest }
-        ensures { Reads (map plain_stmt) (spec.more_stmt sixteen 32 64 (blocks sixteen 32 64 self.now.nest) (map plain_stmt stmts) cursor.old) result cursor.new }
+        ensures { Reads (map plain_stmt) (within_blocks spec.more_stmt self.now.nest (map plain_stmt stmts) cursor.old) result cursor.new }
     {
         let stmt = self.stmt(cursor)?;
         with(stmts, stmt)
     }
 
     /// Statements up to the end of their block.
-    #[tactic(auto, using(crate::proofs::Steps::more_stmt_turns))]
+    #[tactic(auto, using(crate::proofs::Rules::LoopSteps::more_stmt_unrolls))]
     fn stmts(&self, cursor: &mut Cursor<'_>, first: Block) -> Result<Block, Halt>
         requires { ReadsBlocks (F.pre self.now.deeper) (F.post self.now.deeper) self.now.nest }
-        ensures { Reads (map plain_stmt) (spec.stmts sixteen 32 64 (blocks sixteen 32 64 self.now.nest) (map plain_stmt first) cursor.old) result cursor.new }
+        ensures { Reads (map plain_stmt) (within_blocks spec.stmts self.now.nest (map plain_stmt first) cursor.old) result cursor.new }
     {
         let mut stmts = first;
         while !cursor.is_dedent() {
@@ -348,10 +344,10 @@ impl<F: Fn(Global, &mut Cursor<'_>, usize) -> Result<Block, Halt>> Statements<F>
     }
 
     /// A block.
-    #[tactic(auto, unfolding(crate::specs::Reading::block_from))]
+    #[tactic(auto, unfolding(crate::specs::ReadingFunctions::block_from))]
     fn block_from(&self, cursor: &mut Cursor<'_>) -> Result<Block, Halt>
         requires { ReadsBlocks (F.pre self.now.deeper) (F.post self.now.deeper) self.now.nest }
-        ensures { Reads (map plain_stmt) (spec.block_from sixteen 32 64 (blocks sixteen 32 64 self.now.nest) cursor.old) result cursor.new }
+        ensures { Reads (map plain_stmt) (within_blocks spec.block_from self.now.nest cursor.old) result cursor.new }
     {
         cursor.new_line()?;
         cursor.indent()?;
@@ -365,7 +361,7 @@ impl<F: Fn(Global, &mut Cursor<'_>, usize) -> Result<Block, Halt>> Statements<F>
 
 /// Reads a block in which others may stand so deep one in another.
 pub fn read_block(alloc: Global, cursor: &mut Cursor<'_>, nest: usize) -> Result<Block, Halt>
-    ensures { Reads (map plain_stmt) (spec.block_from sixteen 32 64 (blocks sixteen 32 64 nest) cursor.old) result cursor.new }
+    ensures { Reads (map plain_stmt) (within_blocks spec.block_from nest cursor.old) result cursor.new }
 {
     let statements = Statements {
         alloc,

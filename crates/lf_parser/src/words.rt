@@ -4,7 +4,7 @@ ghost use Rattle.lf_parser.specs.Plain.{plain_value};
 ghost use Rattle.lf_parser.specs.Words as spec;
 
 use crate::expr::Expr;
-use crate::grammar::Level;
+use crate::expressions::Level;
 use crate::name::Name;
 use lf_base::Op;
 use lf_lexer::{Lexeme, Mark, Token};

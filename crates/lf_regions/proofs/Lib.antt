@@ -1,5 +1,5 @@
-pub mod NameOrder
-pub mod NameLists
-pub mod KeptEntries
-pub mod NextNames
+pub mod NameCompare
+pub mod RegionNames
 pub mod ChangeLaws
+pub mod KeptRegions
+pub mod NextNames

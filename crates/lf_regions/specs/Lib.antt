@@ -1,5 +1,4 @@
 pub mod Regions
 pub mod RegionChanges
-pub mod RisingNames
 pub mod NextName
-pub mod Keeping
+pub mod KeptRegions

@@ -16,15 +16,15 @@ with_region (region ∷ regions) r =
 
 -- the regions but the one of this name
 abbrev pub without_region : List Region → ObjId → List Region
-without_region regions r = filter (λ region. not (same_name r region.name)) regions
+without_region regions r = filter (λ region. not (same_name region.name r)) regions
 
 -- the region with this number where it has this name, and else as it is
 abbrev pub borrowed_at : ObjId → ℕ → Region → Region
-borrowed_at r number region = if same_name r region.name then record region { borrowed = number } else region
+borrowed_at r number region = if same_name region.name r then record region { borrowed = number } else region
 
 -- the region with this flag where it has this name, and else as it is
 abbrev pub owned_at : ObjId → Bool → Region → Region
-owned_at r owned region = if same_name r region.name then record region { owned = owned } else region
+owned_at r owned region = if same_name region.name r then record region { owned = owned } else region
 
 -- the regions with this number at the one of this name
 abbrev pub with_borrowed : List Region → ObjId → ℕ → List Region

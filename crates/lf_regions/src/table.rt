@@ -1,9 +1,8 @@
 ghost use Rattle.std.specs.Prelude.{◌≡◌, ◌+◌, ◌-◌, ◌<◌, ◌≤◌, ◌^◌, [], false, true, IfOk, OnErr, OnOk};
-ghost use Rattle.lf_regions.specs.Keeping.{start_above};
+ghost use Rattle.lf_regions.specs.KeptRegions.{start_above};
 ghost use Rattle.lf_regions.specs.NextName.{next_name};
 ghost use Rattle.lf_regions.specs.RegionChanges.{with_borrowed, with_owned, with_region, without_region};
-ghost use Rattle.lf_regions.specs.Regions.{borrowed_of, has_region, owned_of};
-ghost use Rattle.lf_regions.specs.RisingNames.{Rising};
+ghost use Rattle.lf_regions.specs.Regions.{InNameOrder, borrowed_of, has_region, owned_of};
 
 use crate::region::Region;
 use lf_base::{ObjId, OutOfMemory};
@@ -27,17 +26,17 @@ pub struct RegionTable {
 impl Model for RegionTable {
     ghost use Rattle.std.specs.Prelude.{List};
     ghost use Rattle.lf_regions.specs.declared.region.Region.{Region};
-    ghost use Rattle.lf_regions.specs.Keeping.{Keeps, regions_at};
+    ghost use Rattle.lf_regions.specs.KeptRegions.{KeepsRegions, regions_at};
 
     ghost Value = { List Region };
 
     ghost view = { λ table. regions_at table.regions table.index.entries };
 
-    ghost invariant = { λ table. Keeps table.regions table.index.entries };
+    ghost invariant = { λ table. KeepsRegions table.regions table.index.entries };
 }
 
 impl RegionTable {
-    /// A table without regions. `OutOfMemory` comes only where memory runs out.
+    /// A table without regions, or `OutOfMemory`.
     pub fn new(alloc: Global) -> Result<RegionTable, OutOfMemory>
         ensures { IfOk result (λ table. table ≡ []) }
     {
@@ -47,13 +46,13 @@ impl RegionTable {
         })
     }
 
-    /// Adds a region of a new name, without borrows and owner. `OutOfMemory` comes
-    /// only where memory runs out; the table is then as it was.
+    /// Adds a region of a new name, without borrows and owner. After
+    /// `OutOfMemory`, which no clause ties to a cause, the table is as it was.
     pub fn make(&mut self, r: ObjId) -> Result<(), OutOfMemory>
         requires { has_region self.old r ≡ false }
         ensures made { OnOk result (self.new ≡ with_region self.old r) }
         ensures unchanged { OnErr result (self.new ≡ self.old) }
-        ensures rising { Rising self.new }
+        ensures rising { InNameOrder self.new }
     {
         self.regions.reserve(1)?;
         let key = self.regions.vacant_key();
@@ -71,7 +70,7 @@ impl RegionTable {
         requires there { has_region self.old r ≡ true }
         requires fits { borrowed_of self.old r + by < 2 ^ 64 }
         ensures added { self.new ≡ with_borrowed self.old r (borrowed_of self.old r + by) }
-        ensures rising { Rising self.new }
+        ensures rising { InNameOrder self.new }
     {
         let key = self.index[&r];
         self.regions[key].borrowed += by;
@@ -82,7 +81,7 @@ impl RegionTable {
         requires there { has_region self.old r ≡ true }
         requires not_less { by ≤ borrowed_of self.old r }
         ensures subtracted { self.new ≡ with_borrowed self.old r (borrowed_of self.old r - by) }
-        ensures rising { Rising self.new }
+        ensures rising { InNameOrder self.new }
     {
         let key = self.index[&r];
         self.regions[key].borrowed -= by;
@@ -92,7 +91,7 @@ impl RegionTable {
     pub fn set_owned(&mut self, r: ObjId, owned: bool)
         requires { has_region self.old r ≡ true }
         ensures set { self.new ≡ with_owned self.old r owned }
-        ensures rising { Rising self.new }
+        ensures rising { InNameOrder self.new }
     {
         let key = self.index[&r];
         self.regions[key].owned = owned;
@@ -104,7 +103,7 @@ impl RegionTable {
         requires not_borrowed { borrowed_of self.old r ≡ 0 }
         requires not_owned { owned_of self.old r ≡ false }
         ensures ended { self.new ≡ without_region self.old r }
-        ensures rising { Rising self.new }
+        ensures rising { InNameOrder self.new }
     {
         if let Some(key) = self.index.remove(&r) {
             self.regions.remove(key);
@@ -115,7 +114,7 @@ impl RegionTable {
     pub fn borrowed(&self, r: ObjId) -> u64
         requires { has_region self.now r ≡ true }
         ensures number { result ≡ borrowed_of self.now r }
-        ensures rising { Rising self.now }
+        ensures rising { InNameOrder self.now }
     {
         self.regions[self.index[&r]].borrowed
     }
@@ -124,7 +123,7 @@ impl RegionTable {
     pub fn is_owned(&self, r: ObjId) -> bool
         requires { has_region self.now r ≡ true }
         ensures flag { result ≡ owned_of self.now r }
-        ensures rising { Rising self.now }
+        ensures rising { InNameOrder self.now }
     {
         self.regions[self.index[&r]].owned
     }
@@ -133,7 +132,7 @@ impl RegionTable {
     /// exactly where there is none.
     pub fn next_above(&self, after: Option<ObjId>) -> Option<ObjId>
         ensures next { result ≡ next_name self.now after }
-        ensures rising { Rising self.now }
+        ensures rising { InNameOrder self.now }
     {
         let names = (first_above(after), Bound::Unbounded);
         match self.index.range(names).next() {
@@ -150,49 +149,5 @@ fn first_above(after: Option<ObjId>) -> Bound<ObjId>
     match after {
         Some(name) => Bound::Excluded(name),
         None => Bound::Unbounded,
-    }
-}
-
-#[cfg(test)]
-mod tests {
-    use super::*;
-    use std::test::Fail;
-
-    const FIRST: ObjId = ObjId { birth: 1, seq: 9 };
-
-    const MIDDLE: ObjId = ObjId { birth: 2, seq: 1 };
-
-    const BETWEEN: ObjId = ObjId { birth: 2, seq: 3 };
-
-    const LAST: ObjId = ObjId { birth: 2, seq: 5 };
-
-    #[test]
-    fn names_rise(rt: HostRuntime) -> Result<(), Fail> {
-        let mut table = RegionTable::new(rt.alloc())?;
-        assert_eq!(rt; table.next_above(None), None);
-        table.make(LAST)?;
-        table.make(FIRST)?;
-        table.make(MIDDLE)?;
-        assert_eq!(rt; table.next_above(None), Some(FIRST));
-        assert_eq!(rt; table.next_above(Some(FIRST)), Some(MIDDLE));
-        assert_eq!(rt; table.next_above(Some(BETWEEN)), Some(LAST));
-        assert_eq!(rt; table.next_above(Some(LAST)), None);
-        Ok(())
-    }
-
-    #[test]
-    fn counts_and_marks(rt: HostRuntime) -> Result<(), Fail> {
-        let mut table = RegionTable::new(rt.alloc())?;
-        table.make(FIRST)?;
-        table.borrow(FIRST, 3);
-        table.unborrow(FIRST, 1);
-        assert_eq!(rt; table.borrowed(FIRST), 2);
-        table.unborrow(FIRST, 2);
-        table.set_owned(FIRST, true);
-        assert!(rt; table.is_owned(FIRST));
-        table.set_owned(FIRST, false);
-        table.end(FIRST);
-        assert_eq!(rt; table.next_above(None), None);
-        Ok(())
     }
 }

@@ -1,3 +1,4 @@
+use crate::accounts::ACCOUNTS;
 use crate::row::{CHECKED, REFUSED, Row};
 
 // Scripts under `check`.
@@ -19,7 +20,7 @@ static ROWS: [Row; 7] = [
     },
     Row {
         name: "check: accounts",
-        script: "def account(n):\n    r = Region()\n    r.balance = n\n    return Cown(move r)\ndef pay(a, b, n):\n    when a, b with n:\n        a.value.balance = a.value.balance - n\n        b.value.balance = b.value.balance + n\nx = account(100)\ny = account(50)\npay(x, y, 30)\npay(y, x, 10)\npay(x, y, 6)\nwhen x, y:\n    print(x.value.balance, y.value.balance)\n",
+        script: ACCOUNTS,
         ..CHECKED
     },
     Row {

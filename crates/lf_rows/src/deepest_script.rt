@@ -1,7 +1,7 @@
 use lf_base::OutOfMemory;
 use std::alloc::Global;
 
-// A line behind so many spaces.
+// A line after so many spaces.
 fn push_line(script: &mut String, indent: usize, line: &str) -> Result<(), OutOfMemory> {
     for _space in 0..indent {
         script.push_str(" ")?;

@@ -2,9 +2,14 @@
 //! over a source and a sink in memory, with the text, the status and the journal
 //! that it must give. A row is added to a table; the loops stay as they are.
 //!
-//! It stands on `lf_app`, `lf_base` and `lf_outside`, and promises nothing.
+//! `tree_rows` and `name_rows` read scripts without running them, and `lexer_tests`,
+//! `outside_tests` and `text_tests` call what stands below the program.
+//!
+//! It stands on `lf_app`, `lf_codegen`, `lf_parser`, `lf_lexer`, `lf_base` and `lf_outside`, and promises nothing.
 #![tactic(auto)]
 
+#[cfg(test)]
+mod accounts;
 #[cfg(test)]
 mod check_rows;
 #[cfg(test)]
@@ -12,9 +17,15 @@ mod deepest_script;
 #[cfg(test)]
 mod first_form_rows;
 #[cfg(test)]
+mod lexer_tests;
+#[cfg(test)]
 mod long_scripts;
 #[cfg(test)]
+mod name_rows;
+#[cfg(test)]
 mod not_built_rows;
+#[cfg(test)]
+mod outside_tests;
 #[cfg(test)]
 mod refusal_rows;
 #[cfg(test)]
@@ -23,5 +34,9 @@ mod row;
 mod rows;
 #[cfg(test)]
 mod stream_rows;
+#[cfg(test)]
+mod text_tests;
+#[cfg(test)]
+mod tree_rows;
 #[cfg(test)]
 mod word_rows;

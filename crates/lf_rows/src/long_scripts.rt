@@ -102,7 +102,7 @@ static LONG_SCRIPTS: [LongScript; 8] = [
         text: "refused TooManyParts at line 1 column 1025\n",
     },
     LongScript {
-        name: "fields of fields as long as a script may be, and no name behind the last dot",
+        name: "fields of fields as long as a script may be, and no name after the last dot",
         parts: &[
             Repeated {
                 part: "x",

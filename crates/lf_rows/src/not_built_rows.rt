@@ -111,7 +111,7 @@ static ROWS: [Row; 21] = [
         ..REFUSED
     },
     Row {
-        name: "a def behind a wrong statement",
+        name: "a def after a wrong statement",
         script: "x = {}\nx = 1\ndef f():\n    pass\n",
         text: "refused NotBuilt at line 2 column 1\n",
         ..REFUSED

@@ -45,7 +45,7 @@ static ROWS: [Row; 25] = [
         ..REFUSED
     },
     Row {
-        name: "a bad byte behind a wrong statement",
+        name: "a bad byte after a wrong statement",
         script: "x = 1\ny = !",
         text: "refused BadByte at line 2 column 5\n",
         ..REFUSED

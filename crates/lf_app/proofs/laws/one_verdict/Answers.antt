@@ -1,5 +1,5 @@
-use Rattle.lf_app.proofs.OneVerdict.{there, once}
+use Rattle.lf_app.proofs.OneVerdict.{some_verdict, one_verdict}
 use Rattle.lf_app.proofs.laws.one_verdict.Goals as goal
 
 pub returns : goal.returns
-returns c = record { there = there; once = once }
+returns c = record { there = some_verdict; once = one_verdict }

@@ -2,7 +2,7 @@ use Rattle.std.proofs.Common.{subst, sym}
 use Rattle.std.proofs.lemmas.Result.{IfOk-weaker}
 use Rattle.lf_parser.specs.declared.tree.Tree.{Tree}
 use Rattle.lf_parser.specs.Plain.{plain_tree}
-use Rattle.lf_codegen.specs.Reading.{IsRead}
+use Rattle.lf_codegen.specs.ScriptReading.{IsRead}
 use Rattle.lf_app.proofs.Judging.{of_tree}
 use Rattle.lf_app.proofs.script.judge.Goals as goal
 

@@ -1,4 +1,4 @@
-use Rattle.lf_base.proofs.TextLemmas.{Differ-fixed_texts, Differ-with_text}
+use Rattle.lf_base.proofs.TextLemmas.TextLists.{Differ-fixed_texts, Differ-with_text}
 use Rattle.lf_base.proofs.text_laws.texts_differ.Goals as goal
 
 pub returns-clause-first : goal.returns-clause-first

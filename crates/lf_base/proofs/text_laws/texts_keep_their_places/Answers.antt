@@ -1,6 +1,6 @@
 use Rattle.std.proofs.Common.{◌∙◌, ap, sym}
 use Rattle.lf_base.specs.Texts.{with_text, text_at}
-use Rattle.lf_base.proofs.TextLemmas.{grows_self, list_any-with_text, place_of_grows, place_of-with_text, text_at-place_of}
+use Rattle.lf_base.proofs.TextLemmas.TextLists.{grows_self, list_any-with_text, place_of_grows, place_of-with_text, text_at-place_of}
 use Rattle.lf_base.proofs.text_laws.texts_keep_their_places.Goals as goal
 
 pub returns-clause-found : goal.returns-clause-found

@@ -1,7 +1,7 @@
 use Rattle.std.proofs.Common.{◌≡◌, ◌++◌, drop}
 use Rattle.lf_parser.specs.Plain.{plain_block}
 use Rattle.lf_codegen.specs.Frames.{block_whens}
-use Rattle.lf_codegen.specs.Standing.{plain_frames}
+use Rattle.lf_codegen.specs.TablesMean.{plain_frames}
 use Rattle.lf_codegen.proofs.frames.+whens.Given as goal
 
 abbrev pub invariant-of_stmts-loop-stmt : goal.invariant-of_stmts-loop-stmt

@@ -1,7 +1,7 @@
 use Rattle.std.proofs.Common.{◌≡◌, ◌++◌, drop, map, flat_map}
 use Rattle.lf_parser.specs.Plain.{plain_function}
 use Rattle.lf_codegen.specs.Frames.{function_whens}
-use Rattle.lf_codegen.specs.Standing.{plain_frames}
+use Rattle.lf_codegen.specs.TablesMean.{plain_frames}
 use Rattle.lf_codegen.proofs.frames.of_functions.Given as goal
 
 abbrev pub invariant-loop-function : goal.invariant-loop-function

@@ -1,7 +1,7 @@
 use Rattle.std.proofs.Common.{◌≡◌, ◌++◌, drop, map}
 use Rattle.lf_parser.specs.Plain.{plain_function}
 use Rattle.lf_codegen.specs.Frames.{function_frame}
-use Rattle.lf_codegen.specs.Standing.{plain_frames}
+use Rattle.lf_codegen.specs.TablesMean.{plain_frames}
 use Rattle.lf_codegen.proofs.frames.push_functions.Given as goal
 
 abbrev pub invariant-loop-function : goal.invariant-loop-function

@@ -2,9 +2,9 @@ use Rattle.std.proofs.Common.{◌≡◌, ◌++◌, ◌∙◌, ap, map, flat_map,
 use Rattle.std.proofs.lemmas.List.Sorted.{answers_always, IsNonDecreasingBy-from_sort_by_key}
 use Rattle.lf_parser.specs.Plain.{plain_block, plain_function}
 use Rattle.lf_codegen.specs.declared.frame.Frame.{Frame}
-use Rattle.lf_codegen.specs.Frames.{block_whens, function_whens, line_of, rising}
-use Rattle.lf_codegen.specs.Standing.{plain_frame, plain_frames}
-use Rattle.lf_codegen.proofs.Rising.{is_rising, map_rising, stable_keys}
+use Rattle.lf_codegen.specs.Frames.{block_whens, function_whens, frame_line, rising}
+use Rattle.lf_codegen.specs.TablesMean.{plain_frame, plain_frames}
+use Rattle.lf_codegen.proofs.OverLists.StableSorts.{is_rising, map_rising, stable_keys}
 use Rattle.lf_codegen.proofs.frames.when_frames_of.Goals as goal
 
 pub returns : goal.returns
@@ -17,4 +17,4 @@ returns c =
     ∙ ap (λ l. l ++ block_whens (plain_block c.args.tree.now.main)) c.in_ok-of_functions.ensures
     ∙ ap (λ l. plain_frames l ++ flat_map function_whens (map plain_function c.as_slice.result.now) ++ block_whens (plain_block c.args.tree.now.main)) c.new-whens.ensures.items
     ∙ ap (λ l. flat_map function_whens (map plain_function l) ++ block_whens (plain_block c.args.tree.now.main)) c.as_slice.ensures in
-    ap plain_frames (is_rising (λ (f : Frame). f.line) _ _ up stays) ∙ map_rising plain_frame line_of c.of_stmts.new.out.items ∙ ap (rising line_of) found
+    ap plain_frames (is_rising (λ (f : Frame). f.line) _ _ up stays) ∙ map_rising plain_frame frame_line c.of_stmts.new.out.items ∙ ap (rising frame_line) found

@@ -1,4 +1,4 @@
-use Rattle.lf_codegen.proofs.OneAnswer.{parsed_texts, parsed_tree, read_texts, read_tree, refused_once, read_not_refused}
+use Rattle.lf_codegen.proofs.Answering.OneAnswer.{parsed_texts, parsed_tree, read_texts, read_tree, refused_once, read_not_refused}
 use Rattle.lf_codegen.proofs.laws.one_answer.Goals as goal
 
 pub returns : goal.returns

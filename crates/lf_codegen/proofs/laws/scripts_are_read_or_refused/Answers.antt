@@ -1,4 +1,4 @@
-use Rattle.lf_codegen.proofs.Decided.{read_or}
+use Rattle.lf_codegen.proofs.Answering.Decided.{read_or}
 use Rattle.lf_codegen.proofs.laws.scripts_are_read_or_refused.Goals as goal
 
 pub returns : goal.returns

@@ -1,5 +1,5 @@
-use Rattle.lf_codegen.proofs.OneAnswer.{parsed_names}
-use Rattle.lf_codegen.proofs.VariableOrder.{variables_rise}
+use Rattle.lf_codegen.proofs.Answering.OneAnswer.{parsed_names}
+use Rattle.lf_codegen.proofs.FrameOrder.VariableOrder.{variables_rise}
 use Rattle.lf_codegen.proofs.laws.variables_in_order.Goals as goal
 
 pub returns : goal.returns

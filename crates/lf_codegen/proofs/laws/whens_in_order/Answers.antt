@@ -1,5 +1,5 @@
-use Rattle.lf_codegen.proofs.OneAnswer.{parsed_lines}
-use Rattle.lf_codegen.proofs.WhenOrder.{whens_rise}
+use Rattle.lf_codegen.proofs.Answering.OneAnswer.{parsed_lines}
+use Rattle.lf_codegen.proofs.FrameOrder.WhenOrder.{whens_rise}
 use Rattle.lf_codegen.proofs.laws.whens_in_order.Goals as goal
 
 pub returns : goal.returns

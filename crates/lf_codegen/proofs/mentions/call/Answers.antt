@@ -1,5 +1,5 @@
 use Rattle.std.proofs.Common.{rules}
-use Rattle.lf_codegen.proofs.Arguments.{count_of_args}
+use Rattle.lf_codegen.proofs.Mentioning.Arguments.{count_of_args}
 use Rattle.lf_codegen.proofs.mentions.call.Goals as goal
 
 pub returns : goal.returns

@@ -2,7 +2,7 @@ use Rattle.std.proofs.Common.{◌≡◌, ◌++◌, map, OnOk, rules}
 use Rattle.std.proofs.lemmas.Iterator.Adapters.{YieldsList-from_rev_slice, fact_from_extend}
 use Rattle.lf_parser.specs.Plain.{args_of, plain_expr}
 use Rattle.lf_codegen.specs.Parts.{args_back, plain_lent}
-use Rattle.lf_codegen.proofs.Visiting.{args_left}
+use Rattle.lf_codegen.proofs.Mentioning.Visiting.{args_left}
 use Rattle.lf_codegen.proofs.mentions.leave_args.Goals as goal
 
 pub returns : goal.returns

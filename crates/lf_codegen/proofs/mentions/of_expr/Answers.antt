@@ -1,6 +1,6 @@
 use Rattle.std.proofs.Common.{◌∙◌}
 use Rattle.lf_codegen.specs.Parts.{plain_lent}
-use Rattle.lf_codegen.proofs.Visiting.{visited, visited_smaller}
+use Rattle.lf_codegen.proofs.Mentioning.Visiting.{visited, visited_smaller}
 use Rattle.lf_codegen.proofs.mentions.of_expr.Goals as goal
 
 pub loop-next-smaller : goal.loop-next-smaller

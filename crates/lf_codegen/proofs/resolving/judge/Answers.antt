@@ -3,8 +3,8 @@ use Rattle.lf_parser.specs.Plain.{plain_function, plain_tree}
 use Rattle.lf_codegen.specs.Earliest.{earliest}
 use Rattle.lf_codegen.specs.Frames.{frames}
 use Rattle.lf_codegen.specs.NameRefusals.{frame_refusals, names_refusals, params_refusals}
-use Rattle.lf_codegen.specs.Standing.{Knows, plain_frames}
-use Rattle.lf_codegen.proofs.Judging.{in_three}
+use Rattle.lf_codegen.specs.TablesMean.{Knows, plain_frames}
+use Rattle.lf_codegen.proofs.FirstRefusal.Judging.{in_three}
 use Rattle.lf_codegen.proofs.resolving.judge.Goals as goal
 
 pub returns-clause-refusals : goal.returns-clause-refusals

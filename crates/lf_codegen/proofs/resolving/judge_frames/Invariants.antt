@@ -4,7 +4,7 @@ use Rattle.lf_parser.specs.Plain.{PlainFunction}
 use Rattle.lf_codegen.specs.Earliest.{earliest}
 use Rattle.lf_codegen.specs.Frames.{variables}
 use Rattle.lf_codegen.specs.NameRefusals.{frame_refusals}
-use Rattle.lf_codegen.specs.Standing.{Knows, plain_frames}
+use Rattle.lf_codegen.specs.TablesMean.{Knows, plain_frames}
 use Rattle.lf_codegen.proofs.resolving.judge_frames.Given as goal
 
 abbrev pub invariant-loop-frame : goal.invariant-loop-frame

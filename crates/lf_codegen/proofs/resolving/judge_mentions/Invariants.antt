@@ -5,7 +5,7 @@ use Rattle.lf_parser.specs.Plain.{PlainFunction}
 use Rattle.lf_codegen.specs.Earliest.{earliest}
 use Rattle.lf_codegen.specs.NameRefusals.{mention_refusals}
 use Rattle.lf_codegen.specs.NameSets.{HasNames}
-use Rattle.lf_codegen.specs.Standing.{Knows}
+use Rattle.lf_codegen.specs.TablesMean.{Knows}
 use Rattle.lf_codegen.proofs.resolving.judge_mentions.Given as goal
 
 abbrev pub invariant-loop-mention : goal.invariant-loop-mention

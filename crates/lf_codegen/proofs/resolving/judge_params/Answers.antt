@@ -1,7 +1,7 @@
 use Rattle.std.proofs.Common.{sym, subst, take}
 use Rattle.std.proofs.lemmas.List.{take_more}
 use Rattle.lf_codegen.specs.NameSets.{HasNames}
-use Rattle.lf_codegen.proofs.Judging.{param_step}
+use Rattle.lf_codegen.proofs.FirstRefusal.Judging.{param_step}
 use Rattle.lf_codegen.proofs.resolving.judge_params.Goals as goal
 
 pub loop-param-preserved : goal.loop-param-preserved

@@ -1,5 +1,5 @@
 use Rattle.std.proofs.Common.{◌∙◌, sym}
-use Rattle.lf_codegen.proofs.First.{kept_is_first, none_came}
+use Rattle.lf_codegen.proofs.FirstRefusal.First.{kept_is_first, none_came}
 use Rattle.lf_codegen.proofs.resolving.resolve.Goals as goal
 
 pub returns-in-Some-clause-refused : goal.returns-in-Some-clause-refused

@@ -1,7 +1,7 @@
 use Rattle.std.proofs.Common.{rules}
 use Rattle.lf_parser.specs.Plain.{plain_tree}
-use Rattle.lf_codegen.specs.Reading.{IsParsed}
-use Rattle.lf_codegen.proofs.Reasons.{names_fail}
+use Rattle.lf_codegen.specs.ScriptReading.{IsParsed}
+use Rattle.lf_codegen.proofs.Answering.Reasons.{names_fail}
 use Rattle.lf_codegen.proofs.script.read_script.Goals as goal
 
 pub parse-requires : goal.parse-requires

@@ -2,8 +2,8 @@ use Rattle.std.proofs.Common.{ap, refl, subst, sym, ◌+◌, ◌<◌, ◌∙◌}
 use Rattle.std.specs.Option.{is_some}
 use Rattle.lf_graph.specs.RowChanges.{lowered, with_refs}
 use Rattle.lf_graph.specs.StoredRows.{refs_by}
-use Rattle.lf_graph.proofs.AfterCalls.{other_after}
-use Rattle.lf_graph.proofs.Changes.{at_keeps_owner, same_map}
+use Rattle.lf_graph.proofs.Stores.AfterCalls.{other_after}
+use Rattle.lf_graph.proofs.Stores.Changes.{at_keeps_owner, same_map}
 use Rattle.lf_graph.proofs.callers.count_elsewhere.Goals as goal
 
 pub add_ref-requires-clause-there : goal.add_ref-requires-clause-there

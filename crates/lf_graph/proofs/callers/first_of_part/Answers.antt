@@ -1,4 +1,4 @@
-use Rattle.lf_graph.proofs.AfterCalls.{first_head, no_head}
+use Rattle.lf_graph.proofs.Stores.AfterCalls.{first_head, no_head}
 use Rattle.lf_graph.proofs.callers.first_of_part.Goals as goal
 
 pub returns-in-Some : goal.returns-in-Some

@@ -1,5 +1,5 @@
 use Rattle.std.proofs.Common.{ap, sym, ◌∙◌}
-use Rattle.lf_graph.proofs.Walks.{both, first_there, two_found}
+use Rattle.lf_graph.proofs.Stores.Walks.{both, first_there, two_found}
 use Rattle.lf_graph.proofs.callers.first_two.Goals as goal
 
 pub next-requires : goal.next-requires

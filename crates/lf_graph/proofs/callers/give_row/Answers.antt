@@ -1,4 +1,4 @@
-use Rattle.lf_graph.proofs.AfterCalls.{has_after, moved_after, room_after}
+use Rattle.lf_graph.proofs.Stores.AfterCalls.{has_after, moved_after, room_after}
 use Rattle.lf_graph.proofs.callers.give_row.Goals as goal
 
 pub set_owner-requires-clause-there : goal.set_owner-requires-clause-there

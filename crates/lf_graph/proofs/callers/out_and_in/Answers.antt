@@ -2,8 +2,8 @@ use Rattle.std.proofs.Common.{ap, subst, sym, ◌∙◌}
 use Rattle.lf_base.specs.declared.values.Owner.TheVariants.{In}
 use Rattle.lf_graph.specs.Parts.{AllNew}
 use Rattle.lf_graph.specs.StoredRows.{rows_of}
-use Rattle.lf_graph.proofs.AfterCalls.{back_again}
-use Rattle.lf_graph.proofs.Walks.{none_outside, part_new}
+use Rattle.lf_graph.proofs.Stores.AfterCalls.{back_again}
+use Rattle.lf_graph.proofs.Stores.Walks.{none_outside, part_new}
 use Rattle.lf_graph.proofs.callers.out_and_in.Goals as goal
 
 pub returns-in-Err-clause-left : goal.returns-in-Err-clause-left

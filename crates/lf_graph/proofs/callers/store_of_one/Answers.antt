@@ -1,4 +1,4 @@
-use Rattle.lf_graph.proofs.AfterCalls.{new_in_empty}
+use Rattle.lf_graph.proofs.Stores.AfterCalls.{new_in_empty}
 use Rattle.lf_graph.proofs.callers.store_of_one.Goals as goal
 
 pub insert-requires-clause-new : goal.insert-requires-clause-new

@@ -1,6 +1,6 @@
 use Rattle.lf_base.specs.Links.{to_prev}
 use Rattle.lf_graph.specs.ChainMaps.{heads_of}
-use Rattle.lf_graph.proofs.ChainWrites.{Relinks-written}
+use Rattle.lf_graph.proofs.LinkedRows.ChainWrites.{Relinks-written}
 use Rattle.lf_graph.proofs.chains.set_prev.Goals as goal
 
 pub returns-in-Some-get-clause-rows : goal.returns-in-Some-get-clause-rows

@@ -2,7 +2,7 @@ use Rattle.std.proofs.Common.{refl, subst}
 use Rattle.lf_graph.specs.Cells.{cells_of, walked_keys}
 use Rattle.lf_graph.specs.ChainMaps.{heads_of}
 use Rattle.lf_graph.specs.FlatRows.{KeepsFields}
-use Rattle.lf_graph.proofs.PartRows.{copies_row, is_part_row}
+use Rattle.lf_graph.proofs.FlatStores.PartRows.{copies_row, is_part_row}
 use Rattle.lf_graph.proofs.flat_part.copied_row.Goals as goal
 
 pub returns-clause-part : goal.returns-clause-part

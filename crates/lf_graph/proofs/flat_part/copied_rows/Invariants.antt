@@ -1,7 +1,7 @@
 use Rattle.std.proofs.Common.{length, ◌-◌}
 use Rattle.lf_base.specs.declared.values.Owner.TheVariants.{In}
 use Rattle.lf_graph.specs.FlatRows.{IsFlat, chain_of}
-use Rattle.lf_graph.proofs.PartRows.{Copying}
+use Rattle.lf_graph.proofs.FlatStores.PartRows.{Copying}
 use Rattle.lf_graph.proofs.flat_part.copied_rows.Given as goal
 
 abbrev pub invariant-loop-next : goal.invariant-loop-next

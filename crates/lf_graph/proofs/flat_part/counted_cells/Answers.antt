@@ -2,7 +2,7 @@ use Rattle.std.proofs.Common.{Some, ap, arith, length, refl, slice_get, sym, ◌
 use Rattle.std.proofs.lemmas.List.{take_all}
 use Rattle.std.proofs.lemmas.Option.{slice_get_read}
 use Rattle.lf_graph.specs.FlatParts.{rows_cells}
-use Rattle.lf_graph.proofs.PartRows.{cells_more, no_cells}
+use Rattle.lf_graph.proofs.FlatStores.PartRows.{cells_more, no_cells}
 use Rattle.lf_graph.proofs.flat_part.counted_cells.Goals as goal
 
 pub loop-row-init : goal.loop-row-init

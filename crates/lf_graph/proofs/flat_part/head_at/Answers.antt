@@ -1,7 +1,7 @@
 use Rattle.std.proofs.Common.{Some, length, refl, slice_get, sym, ◌≡◌}
 use Rattle.std.proofs.lemmas.Bool.{ltb-true}
 use Rattle.std.proofs.lemmas.Option.{slice_get_read}
-use Rattle.lf_graph.proofs.PartRows.{head_found}
+use Rattle.lf_graph.proofs.FlatStores.PartRows.{head_found}
 use Rattle.lf_graph.proofs.flat_part.head_at.Goals as goal
 
 pub returns : goal.returns

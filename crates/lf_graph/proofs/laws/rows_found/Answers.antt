@@ -2,7 +2,7 @@ use Rattle.std.proofs.Common.{refl, ◌+◌, ◌-◌}
 use Rattle.lf_base.specs.TakeResult.{drop_field}
 use Rattle.lf_base.specs.WriteResult.{put_field}
 use Rattle.lf_graph.specs.RowChanges.{with_fields, with_refs}
-use Rattle.lf_graph.proofs.Changes.{found_changed, found_moved_last, found_with_row, found_without_row}
+use Rattle.lf_graph.proofs.Stores.Changes.{found_changed, found_moved_last, found_with_row, found_without_row}
 use Rattle.lf_graph.proofs.laws.rows_found.Goals as goal
 
 pub returns-clause-with_field : goal.returns-clause-with_field

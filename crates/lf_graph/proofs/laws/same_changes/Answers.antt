@@ -3,8 +3,8 @@ use Rattle.lf_base.specs.TakeResult.{drop_field}
 use Rattle.lf_base.specs.WriteResult.{put_field}
 use Rattle.lf_graph.specs.RowChanges.{new_row, with_fields, with_refs}
 use Rattle.lf_graph.specs.StoredRows.{is_named, is_under}
-use Rattle.lf_graph.proofs.Changes.{at_keeps_owner, same_append, same_filter, same_map, same_moved}
-use Rattle.lf_graph.proofs.Reordered.{found_reordered, reordered_by_owner}
+use Rattle.lf_graph.proofs.Stores.Changes.{at_keeps_owner, same_append, same_filter, same_map, same_moved}
+use Rattle.lf_graph.proofs.Stores.Reordered.{found_reordered, reordered_by_owner}
 use Rattle.lf_graph.proofs.laws.same_changes.Goals as goal
 
 pub returns-clause-with_field : goal.returns-clause-with_field

@@ -1,4 +1,4 @@
-use Rattle.lf_graph.proofs.Reordered.{differ_reordered, found_reordered, in_order_reordered, reordered_by_owner}
+use Rattle.lf_graph.proofs.Stores.Reordered.{differ_reordered, found_reordered, in_order_reordered, reordered_by_owner}
 use Rattle.lf_graph.proofs.laws.same_rows.Goals as goal
 
 pub returns-clause-found : goal.returns-clause-found

@@ -1,5 +1,5 @@
 use Rattle.lf_base.specs.Names.{same_owner}
-use Rattle.lf_graph.proofs.StateRows.{filtered_store, found_of}
+use Rattle.lf_graph.proofs.Stores.StateRows.{filtered_store, found_of}
 use Rattle.lf_graph.proofs.laws.state_found.Goals as goal
 
 pub returns-clause-found : goal.returns-clause-found

@@ -3,7 +3,7 @@ use Rattle.lf_base.specs.Names.{same_name, same_owner}
 use Rattle.lf_base.specs.TakeResult.{drop_field}
 use Rattle.lf_base.specs.WriteResult.{put_field}
 use Rattle.lf_graph.specs.RowChanges.{with_refs}
-use Rattle.lf_graph.proofs.StateRows.{counts_store, fields_store, filtered_store, inserted_store, moved_store, part_store, same_store}
+use Rattle.lf_graph.proofs.Stores.StateRows.{counts_store, fields_store, filtered_store, inserted_store, moved_store, part_store, same_store}
 use Rattle.lf_graph.proofs.laws.state_rows.Goals as goal
 
 pub returns-clause-with_field : goal.returns-clause-with_field

@@ -1,7 +1,7 @@
 use Rattle.std.proofs.Common.{rules, ◌∙◌, sym, arith}
 use Rattle.std.proofs.lemmas.Bool.Decides.{nat_tests}
 use Rattle.lf_lexer.specs.Front.{front}
-use Rattle.lf_lexer.proofs.LineFronts.{front_on_line, name_no_text, number_no_text}
+use Rattle.lf_lexer.proofs.NextPiece.LineFronts.{front_on_line, name_no_text, number_no_text}
 use Rattle.lf_lexer.proofs.front.front_of.Goals as goal
 
 pub returns-in_default-byte-clause-front : goal.returns-in_default-byte-clause-front

@@ -1,7 +1,7 @@
 use Rattle.std.proofs.Common.{◌∙◌, ℕ, List, sym, ap, subst, arith}
 use Rattle.lf_lexer.specs.declared.tokens.Token.{Token}
 use Rattle.lf_lexer.specs.Lexed.{with_token}
-use Rattle.lf_lexer.proofs.LevelSteps.{ClosedSoFar, closed_more}
+use Rattle.lf_lexer.proofs.LexSteps.LevelSteps.{ClosedSoFar, closed_more}
 use Rattle.lf_lexer.proofs.indent.close_levels.Goals as goal
 
 pub loop-line-preserved : goal.loop-line-preserved

@@ -1,5 +1,5 @@
 use Rattle.std.proofs.Common.{length}
-use Rattle.lf_lexer.proofs.LevelSteps.{ClosedSoFar}
+use Rattle.lf_lexer.proofs.LexSteps.LevelSteps.{ClosedSoFar}
 use Rattle.lf_lexer.proofs.indent.close_levels.Given as goal
 
 abbrev pub invariant-loop-line : goal.invariant-loop-line

@@ -1,7 +1,7 @@
 use Rattle.std.proofs.Common.{◌∙◌, ◌+◌, ℕ, List, sym, ap, subst, refl, arith}
 use Rattle.lf_lexer.specs.declared.tokens.Token.{Token}
 use Rattle.lf_lexer.specs.Lexed.{with_token}
-use Rattle.lf_lexer.proofs.LevelSteps.{ClosingSoFar, closing_more}
+use Rattle.lf_lexer.proofs.LexSteps.LevelSteps.{ClosingSoFar, closing_more}
 use Rattle.lf_lexer.proofs.indent.close_script.Goals as goal
 
 pub loop-levels-preserved : goal.loop-levels-preserved

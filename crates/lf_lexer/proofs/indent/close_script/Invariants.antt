@@ -1,5 +1,5 @@
 use Rattle.std.proofs.Common.{length}
-use Rattle.lf_lexer.proofs.LevelSteps.{ClosingSoFar}
+use Rattle.lf_lexer.proofs.LexSteps.LevelSteps.{ClosingSoFar}
 use Rattle.lf_lexer.proofs.indent.close_script.Given as goal
 
 abbrev pub invariant-loop-levels : goal.invariant-loop-levels

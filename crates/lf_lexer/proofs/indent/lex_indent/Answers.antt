@@ -1,5 +1,5 @@
 use Rattle.std.proofs.Common.{◌∙◌, sym, arith}
-use Rattle.lf_lexer.proofs.LevelSteps.{indent_met, indent_missed}
+use Rattle.lf_lexer.proofs.LexSteps.LevelSteps.{indent_met, indent_missed}
 use Rattle.lf_lexer.proofs.indent.lex_indent.Goals as goal
 
 pub returns-then-innermost-indent-2-clause-refused : goal.returns-then-innermost-indent-2-clause-refused

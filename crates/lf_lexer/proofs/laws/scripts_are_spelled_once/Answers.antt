@@ -1,4 +1,4 @@
-use Rattle.lf_lexer.proofs.ScriptOutcomes.{tokens_once, texts_once}
+use Rattle.lf_lexer.proofs.OneOutcome.ScriptOutcomes.{tokens_once, texts_once}
 use Rattle.lf_lexer.proofs.laws.scripts_are_spelled_once.Goals as goal
 
 pub returns-clause-tokens : goal.returns-clause-tokens

@@ -1,4 +1,4 @@
-use Rattle.lf_lexer.proofs.Named.{tokens_named, texts_begin, texts_differ}
+use Rattle.lf_lexer.proofs.TokenLaws.Named.{tokens_named, texts_begin, texts_differ}
 use Rattle.lf_lexer.proofs.laws.spelled_texts_are_named.Goals as goal
 
 pub returns-clause-fixed : goal.returns-clause-fixed

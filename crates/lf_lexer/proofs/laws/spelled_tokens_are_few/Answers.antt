@@ -1,4 +1,4 @@
-use Rattle.lf_lexer.proofs.Totals.{tokens_count}
+use Rattle.lf_lexer.proofs.TokenLaws.Totals.{tokens_count}
 use Rattle.lf_lexer.proofs.laws.spelled_tokens_are_few.Goals as goal
 
 pub returns : goal.returns

@@ -1,14 +1,19 @@
 use Rattle.std.proofs.Common.{◌∙◌, ◌+◌, ℕ, List, sym, ap, subst, arith, length, length-drop}
 use Rattle.std.proofs.lemmas.Grind.{common_steps}
 use Rattle.lf_lexer.specs.LineRest.{line_rest}
-use Rattle.lf_lexer.proofs.LineRests.{rest_short, rest_drop}
-use Rattle.lf_lexer.proofs.PieceSteps.{step_takes, space_takes, step_piece, step_space, step_end, step_refused, PiecesSoFar}
+use Rattle.lf_lexer.proofs.LineBytes.LineRests.{rest_short, rest_drop}
+use Rattle.lf_lexer.proofs.LexSteps.PieceSteps.{piece_there, space_takes, step_piece, step_space, step_end, step_stops, step_refused, PiecesSoFar}
 use Rattle.lf_lexer.proofs.line.lex_pieces.Goals as goal
 
 pub returns-in-End-clause-lexed : goal.returns-in-End-clause-lexed
 returns-in-End-clause-lexed c =
     step_end c.args.line c.args.indent (line_rest c.args.bytes.now) c.args.lexed.now c.loop-after.lexed _ c.loop-after.at (line_rest c.loop-after.rest.now) c.loop-after.end
     (sym c.in-End.is ∙ c.in_ok-lex_step.ensures.step) c.in_ok-lex_step.ensures.lexed c.loop-after.invariant.so_far
+
+pub returns-in-End-clause-stop : goal.returns-in-End-clause-stop
+returns-in-End-clause-stop c =
+    step_stops c.args.line c.args.indent (line_rest c.args.bytes.now) c.args.lexed.now c.loop-after.lexed c.loop-after.at (line_rest c.loop-after.rest.now) c.loop-after.end
+    (sym c.in-End.is ∙ c.in_ok-lex_step.ensures.step) c.loop-after.invariant.so_far
 
 pub loop-after-preserved-in-Space : goal.loop-after-preserved-in-Space
 loop-after-preserved-in-Space c =
@@ -31,7 +36,7 @@ loop-after-preserved-in-Space c =
 
 pub loop-after-smaller : goal.loop-after-smaller
 loop-after-smaller c =
-    let takes = step_takes (line_rest c.loop-after.rest.now) c.in-Piece.len (sym c.in-Piece.is ∙ c.in_ok-lex_step.ensures.step) in
+    let takes = (piece_there (line_rest c.loop-after.rest.now) c.in-Piece.len (sym c.in-Piece.is ∙ c.in_ok-lex_step.ensures.step)).taken in
     let some = takes.some in
     let within = takes.within in
     let short = rest_short c.loop-after.rest.now in
@@ -41,7 +46,7 @@ pub loop-after-preserved : goal.loop-after-preserved
 loop-after-preserved c =
     let rest = c.loop-after.rest.now in
     let is = sym c.in-Piece.is ∙ c.in_ok-lex_step.ensures.step in
-    let takes = step_takes (line_rest rest) c.in-Piece.len is in
+    let takes = (piece_there (line_rest rest) c.in-Piece.len is).taken in
     let left = ap line_rest c.split_at-in-Piece.ensures.back ∙ rest_drop c.in-Piece.len rest takes.within in
     let within = takes.within in
     let short = rest_short rest in

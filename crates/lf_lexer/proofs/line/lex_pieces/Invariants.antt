@@ -1,6 +1,6 @@
 use Rattle.std.proofs.Common.{◌≡◌, ◌+◌, ◌≤◌, length}
 use Rattle.lf_lexer.specs.LineRest.{line_rest}
-use Rattle.lf_lexer.proofs.PieceSteps.{PiecesSoFar}
+use Rattle.lf_lexer.proofs.LexSteps.PieceSteps.{PiecesSoFar}
 use Rattle.lf_lexer.proofs.line.lex_pieces.Given as goal
 
 abbrev pub invariant-loop-after : goal.invariant-loop-after

@@ -5,7 +5,7 @@ use Rattle.lf_lexer.specs.Lexed.{with_name, with_quoted}
 use Rattle.lf_lexer.specs.LineRest.{line_rest}
 use Rattle.lf_lexer.specs.Lexing.{with_front}
 use Rattle.lf_lexer.specs.Meaning.{meaning, FrontMeans}
-use Rattle.lf_lexer.proofs.LineFronts.{name_taken, text_taken}
+use Rattle.lf_lexer.proofs.NextPiece.LineFronts.{name_taken, text_taken}
 use Rattle.lf_lexer.proofs.line.lex_step.Goals as goal
 
 pub returns-in_ok-push_name-in-Name-clause-lexed : goal.returns-in_ok-push_name-in-Name-clause-lexed

@@ -1,4 +1,4 @@
-use Rattle.lf_lexer.proofs.LineSteps.{script_spelled}
+use Rattle.lf_lexer.proofs.LexSteps.LineSteps.{script_spelled}
 use Rattle.lf_lexer.proofs.script.lex.Goals as goal
 
 pub returns-clause-spelled : goal.returns-clause-spelled

@@ -4,8 +4,8 @@ use Rattle.std.proofs.lemmas.Result.{err_from_is_err_and}
 use Rattle.std.specs.Prelude.{if◌then◌else◌}
 use Rattle.lf_lexer.specs.SourceLines.{full_line_len}
 use Rattle.lf_lexer.specs.Lexing.{LexesLine, RefusesLine}
-use Rattle.lf_lexer.proofs.LineRests.{rest_is_content, full_len_within}
-use Rattle.lf_lexer.proofs.LineSteps.{LinesSoFar, lines_start, lines_end, lines_split, lines_step, lines_refused, some_line, nothing_left, something_left}
+use Rattle.lf_lexer.proofs.LineBytes.LineRests.{rest_is_content, full_len_within}
+use Rattle.lf_lexer.proofs.LexSteps.LineSteps.{LinesSoFar, lines_start, lines_end, lines_split, lines_step, lines_refused, some_line, nothing_left, something_left}
 use Rattle.lf_lexer.proofs.script.lex_lines.Goals.{then-read, else-read}
 use Rattle.lf_lexer.proofs.script.lex_lines.Goals as goal
 

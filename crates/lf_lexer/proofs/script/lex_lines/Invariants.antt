@@ -1,5 +1,5 @@
 use Rattle.std.proofs.Common.{◌≡◌, ◌+◌, ◌<◌, ◌≤◌, length}
-use Rattle.lf_lexer.proofs.LineSteps.{LinesSoFar}
+use Rattle.lf_lexer.proofs.LexSteps.LineSteps.{LinesSoFar}
 use Rattle.lf_lexer.proofs.script.lex_lines.Given as goal
 
 abbrev pub invariant-loop-rest : goal.invariant-loop-rest

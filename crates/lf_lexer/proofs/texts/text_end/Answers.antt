@@ -2,8 +2,8 @@ use Rattle.std.proofs.Common.{◌∙◌, ◌+◌, ℕ, List, refl, ap, arith, le
 use Rattle.std.proofs.lemmas.Grind.{common_steps}
 use Rattle.lf_lexer.specs.Front.{text_end}
 use Rattle.lf_lexer.specs.LineRest.{line_rest}
-use Rattle.lf_lexer.proofs.LineRests.{rest_drop}
-use Rattle.lf_lexer.proofs.TextEnds.{step_ends, step_within, text_starts, text_goes, text_meant}
+use Rattle.lf_lexer.proofs.LineBytes.LineRests.{rest_drop}
+use Rattle.lf_lexer.proofs.NextPiece.TextEnds.{step_ends, step_within, text_starts, text_goes, text_meant}
 use Rattle.lf_lexer.proofs.texts.text_end.Goals as goal
 
 pub returns-in-Closes-clause-end : goal.returns-in-Closes-clause-end

@@ -1,7 +1,7 @@
 use Rattle.std.proofs.Common.{◌≡◌, ◌+◌, length}
 use Rattle.lf_lexer.specs.Front.{text_end}
 use Rattle.lf_lexer.specs.LineRest.{line_rest}
-use Rattle.lf_lexer.proofs.TextEnds.{TextSoFar}
+use Rattle.lf_lexer.proofs.NextPiece.TextEnds.{TextSoFar}
 use Rattle.lf_lexer.proofs.texts.text_end.Given as goal
 
 abbrev pub invariant-loop-offset : goal.invariant-loop-offset

@@ -1,6 +1,6 @@
 use Rattle.std.proofs.Common.{◌∙◌, ◌≤◌, ◌-◌, length, arith}
 use Rattle.std.proofs.lemmas.Grind.{common_steps}
-use Rattle.lf_outside.proofs.Moves.{front_follows, appends_more}
+use Rattle.lf_outside.proofs.Moves.{prefix_follows, appends_more}
 use Rattle.lf_outside.proofs.transfer.write_all.Goals as goal
 
 pub loop-at-preserved : goal.loop-at-preserved
@@ -10,5 +10,5 @@ loop-at-preserved g c =
     let within : c.in-Ok.count ≤ length c.args.bytes.now - c.loop-at.at = grind (arith, common_steps) in (
       omega arith,
       c.in-Ok.ensures.cause.kept ∙ i.1,
-      appends_more _ _ _ _ _ _ (front_follows c.loop-at.at c.in-Ok.count c.args.bytes.now i.0 within) i.2 c.in-Ok.ensures.bytes,
+      appends_more _ _ _ _ _ _ (prefix_follows c.loop-at.at c.in-Ok.count c.args.bytes.now i.0 within) i.2 c.in-Ok.ensures.bytes,
     )

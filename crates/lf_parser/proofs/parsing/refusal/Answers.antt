@@ -1,4 +1,4 @@
-use Rattle.lf_parser.proofs.Parsed.{stopped_whole}
+use Rattle.lf_parser.proofs.Refusals.WithLineLimit.{stopped_whole}
 use Rattle.lf_parser.proofs.parsing.refusal.Goals as goal
 
 pub returns : goal.returns

@@ -1,6 +1,6 @@
 use Rattle.std.proofs.Common.{rules, arith, ◌+◌, length}
 use Rattle.lf_parser.specs.Plain.{plain_tree}
-use Rattle.lf_parser.proofs.Exact.{read_script, refused_script}
+use Rattle.lf_parser.proofs.Refusals.ExactReading.{read_script, refused_script}
 use Rattle.lf_parser.proofs.parsing.whole.Goals as goal
 
 pub refusal-requires-clause-stops : goal.refusal-requires-clause-stops

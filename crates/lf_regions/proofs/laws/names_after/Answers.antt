@@ -1,6 +1,6 @@
 use Rattle.std.proofs.Common.{refl}
 use Rattle.lf_regions.proofs.ChangeLaws.{ended_has, made_names, written_names}
-use Rattle.lf_regions.proofs.NameLists.{names_without}
+use Rattle.lf_regions.proofs.RegionNames.{names_without}
 use Rattle.lf_regions.proofs.laws.names_after.Goals as goal
 
 pub returns-clause-made : goal.returns-clause-made

@@ -1,9 +1,9 @@
 use Rattle.std.proofs.Common.{refl}
-use Rattle.lf_regions.proofs.ChangeLaws.{ended_here, made_here, written_here}
+use Rattle.lf_regions.proofs.ChangeLaws.{ended_here, made_is_found, written_here}
 use Rattle.lf_regions.proofs.laws.region_changes.Goals as goal
 
 pub returns-clause-made : goal.returns-clause-made
-returns-clause-made c = made_here
+returns-clause-made c = made_is_found
 
 pub returns-clause-ended : goal.returns-clause-ended
 returns-clause-ended c = ended_here

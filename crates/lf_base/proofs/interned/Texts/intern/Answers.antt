@@ -1,6 +1,6 @@
 use Rattle.std.proofs.Common.{◌∙◌, sym, ap, is_some, arith}
 use Rattle.std.proofs.lemmas.Grind.{common_steps}
-use Rattle.lf_base.proofs.KeyLemmas.{found_at, kept, added, placed, differ_added}
+use Rattle.lf_base.proofs.TextLemmas.TextKeys.{found_at, kept, added, placed, differ_added}
 use Rattle.lf_base.proofs.interned.Texts.intern.Goals as goal
 
 pub returns-in-Some-clause-place : goal.returns-in-Some-clause-place

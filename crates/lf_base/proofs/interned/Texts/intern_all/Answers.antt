@@ -1,5 +1,5 @@
 use Rattle.std.proofs.Common.{◌∙◌}
-use Rattle.lf_base.proofs.TextLemmas.{with_texts_next}
+use Rattle.lf_base.proofs.TextLemmas.TextLists.{with_texts_next}
 use Rattle.lf_base.proofs.interned.Texts.intern_all.Goals as goal
 
 pub loop-text-preserved : goal.loop-text-preserved

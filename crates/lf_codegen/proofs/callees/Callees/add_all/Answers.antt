@@ -3,9 +3,9 @@ use Rattle.std.proofs.lemmas.List.{take_all}
 use Rattle.lf_parser.specs.Plain.{plain_function}
 use Rattle.lf_codegen.specs.Earliest.{earliest}
 use Rattle.lf_codegen.specs.NameRefusals.{names_refusals, refusals_at}
-use Rattle.lf_codegen.specs.Standing.{Knows}
-use Rattle.lf_codegen.proofs.Judging.{duplicate, judged_functions}
-use Rattle.lf_codegen.proofs.Loops.{map_item}
+use Rattle.lf_codegen.specs.TablesMean.{Knows}
+use Rattle.lf_codegen.proofs.FirstRefusal.Judging.{duplicate, judged_functions}
+use Rattle.lf_codegen.proofs.OverLists.Loops.{map_item}
 use Rattle.lf_codegen.proofs.callees.Callees.add_all.Goals as goal
 
 pub loop-function-preserved : goal.loop-function-preserved

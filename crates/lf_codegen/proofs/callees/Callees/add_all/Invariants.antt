@@ -3,7 +3,7 @@ use Rattle.lf_base.specs.Texts.{Text}
 use Rattle.lf_parser.specs.Plain.{plain_function}
 use Rattle.lf_codegen.specs.Earliest.{earliest}
 use Rattle.lf_codegen.specs.NameRefusals.{names_refusals}
-use Rattle.lf_codegen.specs.Standing.{Knows}
+use Rattle.lf_codegen.specs.TablesMean.{Knows}
 use Rattle.lf_codegen.proofs.callees.Callees.add_all.Given as goal
 
 abbrev pub invariant-loop-function : goal.invariant-loop-function

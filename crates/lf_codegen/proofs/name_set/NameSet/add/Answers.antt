@@ -1,6 +1,6 @@
 use Rattle.std.proofs.Common.{◌∙◌, ap, true, cond}
 use Rattle.lf_base.specs.Texts.{same_text}
-use Rattle.lf_codegen.proofs.SetsOfNames.{among_more}
+use Rattle.lf_codegen.proofs.NameTables.SetsOfNames.{among_more}
 use Rattle.lf_codegen.proofs.name_set.NameSet.add.Goals as goal
 
 pub returns-clause-has : goal.returns-clause-has

@@ -1,6 +1,6 @@
 use Rattle.std.proofs.Common.{◌∙◌, ap}
 use Rattle.lf_codegen.specs.Frames.{binds, is_among}
-use Rattle.lf_codegen.proofs.Loops.{flat_step}
+use Rattle.lf_codegen.proofs.OverLists.Loops.{flat_step}
 use Rattle.lf_codegen.proofs.name_set.NameSet.add_bound.Goals as goal
 
 pub loop-mention-preserved : goal.loop-mention-preserved

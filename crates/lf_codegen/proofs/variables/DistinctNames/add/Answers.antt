@@ -1,6 +1,6 @@
 use Rattle.std.proofs.Common.{◌∙◌, ap, sym}
 use Rattle.lf_codegen.specs.Frames.{is_among}
-use Rattle.lf_codegen.proofs.SetsOfNames.{among_again, old_name, with_old}
+use Rattle.lf_codegen.proofs.NameTables.SetsOfNames.{among_again, old_name, with_old}
 use Rattle.lf_codegen.proofs.variables.DistinctNames.add.Goals as goal
 
 pub returns-then-not-branch : goal.returns-then-not-branch

@@ -1,6 +1,6 @@
 use Rattle.std.proofs.Common.{sym, ◌∙◌}
 use Rattle.lf_graph.specs.Cells.{cells_of}
-use Rattle.lf_graph.proofs.CellLists.{no_key_at, pair_at}
+use Rattle.lf_graph.proofs.FieldTable.CellLists.{no_key_at, pair_at}
 use Rattle.lf_graph.proofs.cells.Cells.at.Goals as goal
 
 pub returns-in_err-cell : goal.returns-in_err-cell

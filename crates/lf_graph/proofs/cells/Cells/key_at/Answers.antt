@@ -1,9 +1,9 @@
 use Rattle.std.proofs.Common.{ap, arith, slice_get, sym, ◌∙◌, ◌≡◌}
 use Rattle.lf_base.specs.Links.{next_from}
 use Rattle.lf_base.specs.Names.{same_key}
-use Rattle.lf_base.proofs.LinkedLists.{IsList-step}
+use Rattle.lf_base.proofs.ListLemmas.LinkedLists.{IsList-step}
 use Rattle.lf_graph.specs.Cells.{cells_of, has_cell, link_of}
-use Rattle.lf_graph.proofs.CellMaps.{Decides-same_key}
+use Rattle.lf_graph.proofs.FieldTable.CellMaps.{Decides-same_key}
 use Rattle.lf_graph.proofs.cells.Cells.key_at.Goals as goal
 
 pub loop-step-preserved : goal.loop-step-preserved

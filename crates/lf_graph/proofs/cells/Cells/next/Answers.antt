@@ -1,6 +1,6 @@
 use Rattle.std.proofs.Common.{sym}
 use Rattle.lf_graph.specs.Cells.{cells_of}
-use Rattle.lf_graph.proofs.CellLists.{next_key, no_next_key}
+use Rattle.lf_graph.proofs.FieldTable.CellLists.{next_key, no_next_key}
 use Rattle.lf_graph.proofs.cells.Cells.next.Goals as goal
 
 pub returns-in-Some : goal.returns-in-Some

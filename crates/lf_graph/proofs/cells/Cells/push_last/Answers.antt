@@ -1,6 +1,6 @@
 use Rattle.std.proofs.Common.{arith, subst, sym, ◌++◌, ◌∷◌, []}
 use Rattle.lf_graph.specs.Cells.{IsFieldList, cells_of}
-use Rattle.lf_graph.proofs.CellLists.{few_fields, pushed_list, pushed_value}
+use Rattle.lf_graph.proofs.FieldTable.CellLists.{few_fields, pushed_list, pushed_value}
 use Rattle.lf_graph.proofs.cells.Cells.push_last.Goals as goal
 
 pub with_last-requires : goal.with_last-requires

@@ -1,5 +1,5 @@
 use Rattle.std.proofs.Common.{Some}
-use Rattle.lf_graph.proofs.CellMaps.{cells_updated, names_agree}
+use Rattle.lf_graph.proofs.FieldTable.CellMaps.{cells_updated, names_agree}
 use Rattle.lf_graph.proofs.cells.Cells.put.Goals as goal
 
 pub returns-clause-cells : goal.returns-clause-cells

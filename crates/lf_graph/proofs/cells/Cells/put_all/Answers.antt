@@ -2,11 +2,11 @@ use Rattle.std.proofs.Common.{arith, subst, take, ◌≡◌}
 use Rattle.std.proofs.lemmas.List.{take_all}
 use Rattle.std.proofs.lemmas.Option.{slice_get-get_or}
 use Rattle.lf_graph.specs.Cells.{IsFieldList, cells_of, pairs}
-use Rattle.lf_graph.proofs.FieldCopies.{fresh, keys_of, none_put, one_put}
+use Rattle.lf_graph.proofs.FieldTable.FieldCopies.{fresh, keys_of, no_field_put, one_field_put}
 use Rattle.lf_graph.proofs.cells.Cells.put_all.Goals as goal
 
 pub loop-field-init : goal.loop-field-init
-loop-field-init c = (none_put (cells_of c.args.self.now) c.args.o c.empty-ends.result c.args.fields.now (c.empty-ends.ensures (cells_of c.args.self.now) c.args.o c.requires.none), omega arith)
+loop-field-init c = (no_field_put (cells_of c.args.self.now) c.args.o c.empty-ends.result c.args.fields.now (c.empty-ends.ensures (cells_of c.args.self.now) c.args.o c.requires.none), omega arith)
 
 pub push_last-ends-requires-clause-list : goal.push_last-ends-requires-clause-list
 push_last-ends-requires-clause-list c = (keys_of (take c.loop-field.field-index c.args.fields.now), c.loop-field.invariant.0.list)
@@ -20,7 +20,7 @@ push_last-ends-requires-clause-room c = let l = c.loop-field.invariant.1 in let 
 
 pub loop-field-preserved : goal.loop-field-preserved
 loop-field-preserved c = (
-  one_put (cells_of c.args.self.now) (cells_of c.loop-field.self) (cells_of c.push_last-ends.new.self) c.args.o c.loop-field.ends c.push_last-ends.result c.args.fields.now c.loop-field.field-index _ (slice_get-get_or c.args.fields.now c.loop-field.field-index _ (grind arith)) c.requires.differ c.loop-field.invariant.0
+  one_field_put (cells_of c.args.self.now) (cells_of c.loop-field.self) (cells_of c.push_last-ends.new.self) c.args.o c.loop-field.ends c.push_last-ends.result c.args.fields.now c.loop-field.field-index _ (slice_get-get_or c.args.fields.now c.loop-field.field-index _ (grind arith)) c.requires.differ c.loop-field.invariant.0
       (c.push_last-ends.ensures.lists (keys_of (take c.loop-field.field-index c.args.fields.now)) c.loop-field.invariant.0.list) c.push_last-ends.ensures.value c.push_last-ends.ensures.others,
   (let l = c.loop-field.invariant.1 in let r = c.push_last-ends.ensures.room in grind arith),
 )

@@ -1,4 +1,4 @@
-use Rattle.lf_graph.proofs.CellMaps.{cells_kept, names_agree}
+use Rattle.lf_graph.proofs.FieldTable.CellMaps.{cells_kept, names_agree}
 use Rattle.lf_graph.proofs.cells.Cells.reserve.Goals as goal
 
 pub returns-in-Ok-clause-cells : goal.returns-in-Ok-clause-cells

@@ -1,5 +1,5 @@
 use Rattle.lf_base.specs.Links.{to_prev}
-use Rattle.lf_graph.proofs.CellMaps.{cells_relinked, names_agree}
+use Rattle.lf_graph.proofs.FieldTable.CellMaps.{cells_relinked, names_agree}
 use Rattle.lf_graph.proofs.cells.Cells.set_prev.Goals as goal
 
 pub returns-in-Some-get_mut-clause-cells : goal.returns-in-Some-get_mut-clause-cells

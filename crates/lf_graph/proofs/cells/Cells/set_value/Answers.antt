@@ -1,8 +1,8 @@
 use Rattle.std.proofs.Common.{refl, sym, ◌∙◌}
 use Rattle.std.specs.Option.{option_map}
 use Rattle.lf_graph.specs.Cells.{cells_of, with_value}
-use Rattle.lf_graph.proofs.CellLists.{not_there, only_others, valued_list, valued_value_at}
-use Rattle.lf_graph.proofs.CellMaps.{cells_read, cells_written, names_agree}
+use Rattle.lf_graph.proofs.FieldTable.CellLists.{cell_not_none, only_others, valued_list, valued_value_at}
+use Rattle.lf_graph.proofs.FieldTable.CellMaps.{cells_read, cells_written, names_agree}
 use Rattle.lf_graph.proofs.cells.Cells.set_value.Goals as goal
 
 pub returns-in-Some-clause-lists : goal.returns-in-Some-clause-lists
@@ -22,4 +22,4 @@ returns-in-Some-clause-others c =
 
 pub returns-in_default-clause-lists : goal.returns-in_default-clause-lists
 returns-in_default-clause-lists c =
-    absurd (not_there (cells_of c.args.self.now c.args.o c.args.key) (sym (cells_read _ names_agree c.args.self.now.cells c.args.o c.args.key) ∙ sym c.in_default.ensures.value) c.requires.there)
+    absurd (cell_not_none (cells_of c.args.self.now c.args.o c.args.key) (sym (cells_read _ names_agree c.args.self.now.cells c.args.o c.args.key) ∙ sym c.in_default.ensures.value) c.requires.there)

@@ -2,7 +2,7 @@ use Rattle.std.proofs.Common.{subst, sym}
 use Rattle.lf_base.specs.Links.{without}
 use Rattle.lf_base.specs.Names.{same_key}
 use Rattle.lf_graph.specs.Cells.{IsFieldList, cells_of}
-use Rattle.lf_graph.proofs.CellLists.{unlinked_list, unlinked_value}
+use Rattle.lf_graph.proofs.FieldTable.CellLists.{unlinked_list, unlinked_value}
 use Rattle.lf_graph.proofs.cells.Cells.unlink.Goals as goal
 
 pub returns-clause-lists : goal.returns-clause-lists

@@ -1,6 +1,6 @@
 use Rattle.std.proofs.Common.{refl}
 use Rattle.lf_graph.specs.ChainMaps.{ends_of, heads_of}
-use Rattle.lf_graph.proofs.ChainLemmas.{AreChains-pushed, none_kept}
+use Rattle.lf_graph.proofs.LinkedRows.ChainLemmas.{AreChains-pushed, none_kept}
 use Rattle.lf_graph.proofs.chains.Chains.push_last.Goals as goal
 
 pub returns-clause-lists : goal.returns-clause-lists

@@ -1,6 +1,6 @@
 use Rattle.std.proofs.Common.{refl}
 use Rattle.lf_graph.specs.ChainMaps.{ends_of, heads_of}
-use Rattle.lf_graph.proofs.ChainLemmas.{AreChains-same}
+use Rattle.lf_graph.proofs.LinkedRows.ChainLemmas.{AreChains-same}
 use Rattle.lf_graph.proofs.chains.Chains.reserve.Goals as goal
 
 pub returns-in_err-reserve-clause-lists : goal.returns-in_err-reserve-clause-lists

@@ -1,7 +1,7 @@
 use Rattle.std.proofs.Common.{ap, sym, ◌∙◌}
 use Rattle.lf_graph.specs.ChainMaps.{ends_of, heads_of}
 use Rattle.lf_graph.specs.Chains.{owner_of_head}
-use Rattle.lf_graph.proofs.ChainWrites.{chains_replaced, same_owner_kept}
+use Rattle.lf_graph.proofs.LinkedRows.ChainWrites.{chains_replaced, same_owner_kept}
 use Rattle.lf_graph.proofs.chains.Chains.set.Goals as goal
 
 pub returns-in-Some-clause-lists : goal.returns-in-Some-clause-lists

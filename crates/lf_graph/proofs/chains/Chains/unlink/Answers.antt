@@ -1,6 +1,6 @@
 use Rattle.std.proofs.Common.{sym, ◌∙◌}
 use Rattle.lf_graph.specs.ChainMaps.{ends_of, heads_of}
-use Rattle.lf_graph.proofs.ChainLemmas.{AreChains-unlinked}
+use Rattle.lf_graph.proofs.LinkedRows.ChainLemmas.{AreChains-unlinked}
 use Rattle.lf_graph.proofs.chains.Chains.unlink.Goals as goal
 
 pub returns-clause-lists : goal.returns-clause-lists

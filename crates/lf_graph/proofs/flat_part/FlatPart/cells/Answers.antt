@@ -1,7 +1,7 @@
 use Rattle.std.proofs.Common.{ap, subst, sym, ◌∙◌, ◌≡◌}
 use Rattle.std.specs.Option.{IfSome}
 use Rattle.lf_graph.specs.FlatParts.{PartView, part_cells, rows_cells}
-use Rattle.lf_graph.proofs.PartRows.{cells_of_part}
+use Rattle.lf_graph.proofs.FlatStores.PartRows.{cells_of_part}
 use Rattle.lf_graph.proofs.flat_part.FlatPart.cells.Goals as goal
 
 pub returns : goal.returns

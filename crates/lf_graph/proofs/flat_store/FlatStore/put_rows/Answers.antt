@@ -3,12 +3,12 @@ use Rattle.std.proofs.lemmas.List.{take_all}
 use Rattle.std.proofs.lemmas.Option.{slice_get_read}
 use Rattle.lf_graph.specs.FlatParts.{part_row, rows_cells}
 use Rattle.lf_graph.specs.StoredRows.{SameByOwner}
-use Rattle.lf_graph.proofs.PartMoves.{cells_within, name_is_new, none_put, one_put}
-use Rattle.lf_graph.proofs.PartRows.{cells_more, each_at}
+use Rattle.lf_graph.proofs.FlatStores.PartMoves.{cells_within, name_is_new, no_row_put, one_row_put}
+use Rattle.lf_graph.proofs.FlatStores.PartRows.{cells_more, each_at}
 use Rattle.lf_graph.proofs.flat_store.FlatStore.put_rows.Goals as goal
 
 pub loop-row-init : goal.loop-row-init
-loop-row-init c = (none_put c.args.region c.args.self.now.rows c.args.rows.now, omega arith)
+loop-row-init c = (no_row_put c.args.region c.args.self.now.rows c.args.rows.now, omega arith)
 
 pub put_row-requires-clause-part : goal.put_row-requires-clause-part
 put_row-requires-clause-part c = each_at c.args.rows.now c.loop-row.row-index c.row-item.result c.requires.part.each (slice_get_read c.args.rows.now (length c.args.rows.now) c.loop-row.row-index c.row-item.result refl (grind arith) c.row-item.is)
@@ -29,7 +29,7 @@ loop-row-preserved c =
     let a = c.loop-row.invariant.1 in
     let b = c.put_row.ensures.room in
     let e : rows_cells (take (c.loop-row.row-index + 1) c.args.rows.now) ≡ rows_cells (take c.loop-row.row-index c.args.rows.now) + (1 + length c.row-item.result.fields) = cells_more c.args.rows.now c.loop-row.row-index c.row-item.result (slice_get_read c.args.rows.now (length c.args.rows.now) c.loop-row.row-index c.row-item.result refl (grind arith) c.row-item.is) in
-    (one_put c.args.region c.args.self.now.rows c.loop-row.self.rows c.args.rows.now c.loop-row.row-index c.row-item.result (slice_get_read c.args.rows.now (length c.args.rows.now) c.loop-row.row-index c.row-item.result refl (grind arith) c.row-item.is) c.loop-row.invariant.0 c.put_row.new.self.rows c.put_row.ensures.rows, grind arith)
+    (one_row_put c.args.region c.args.self.now.rows c.loop-row.self.rows c.args.rows.now c.loop-row.row-index c.row-item.result (slice_get_read c.args.rows.now (length c.args.rows.now) c.loop-row.row-index c.row-item.result refl (grind arith) c.row-item.is) c.loop-row.invariant.0 c.put_row.new.self.rows c.put_row.ensures.rows, grind arith)
 
 pub returns : goal.returns
 returns c = subst (λ l. SameByOwner c.loop-row.self.rows (c.args.self.now.rows ++ map (part_row c.args.region) l)) (take_all c.loop-row.row-index c.args.rows.now (grind arith)) c.loop-row.invariant.0

@@ -1,5 +1,5 @@
-use Rattle.lf_graph.proofs.FlatSteps.{flat_empty, rows_empty}
-use Rattle.lf_graph.proofs.ChainLemmas.{no_row}
+use Rattle.lf_graph.proofs.FlatStores.FlatSteps.{flat_empty, rows_empty}
+use Rattle.lf_graph.proofs.LinkedRows.ChainLemmas.{no_row}
 use Rattle.lf_graph.proofs.flat_store.FlatStoreStore.new.Goals as goal
 
 pub invariant_of-result : goal.invariant_of-result

@@ -1,8 +1,8 @@
 use Rattle.std.proofs.Common.{ap, map, subst, sym, ◌∙◌, ◌≤◌, ◌≡◌}
 use Rattle.lf_graph.specs.FlatParts.{part_cells, part_row, rows_cells}
 use Rattle.lf_graph.specs.Parts.{AllNew}
-use Rattle.lf_graph.proofs.PartMoves.{enough_room, same_all_new}
-use Rattle.lf_graph.proofs.PartRows.{cells_of_part}
+use Rattle.lf_graph.proofs.FlatStores.PartMoves.{enough_room, same_all_new}
+use Rattle.lf_graph.proofs.FlatStores.PartRows.{cells_of_part}
 use Rattle.lf_graph.proofs.flat_store.FlatStoreStore.part_in.Goals as goal
 
 pub put_rows-requires-clause-new : goal.put_rows-requires-clause-new

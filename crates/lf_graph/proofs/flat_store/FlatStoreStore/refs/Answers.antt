@@ -1,9 +1,9 @@
 use Rattle.std.proofs.Common.{sym}
-use Rattle.lf_graph.proofs.FlatFound.{is_there, refs_found}
+use Rattle.lf_graph.proofs.FlatStores.FlatFound.{refs_found, row_is_there, seen_as}
 use Rattle.lf_graph.proofs.flat_store.FlatStoreStore.refs.Goals as goal
 
 pub row-requires : goal.row-requires
-row-requires g c = is_there c.self.inside.chains c.self.inside.cells c.self.invariant c.args.self.now c.self.view_is c.args.o c.requires.there
+row-requires g c = row_is_there (seen_as c.self.invariant c.self.view_is) c.args.o c.requires.there
 
 pub returns-clause-refs : goal.returns-clause-refs
-returns-clause-refs g c = sym (refs_found c.self.inside.chains c.self.inside.cells c.self.invariant c.args.self.now c.self.view_is c.args.o c.row.result c.row.ensures.row)
+returns-clause-refs g c = sym (refs_found (seen_as c.self.invariant c.self.view_is) c.args.o c.row.result c.row.ensures.row)

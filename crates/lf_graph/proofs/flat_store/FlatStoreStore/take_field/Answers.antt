@@ -5,27 +5,40 @@ use Rattle.lf_base.specs.TakeResult.{drop_field}
 use Rattle.lf_graph.specs.declared.cells.Cell.{Cell}
 use Rattle.lf_graph.specs.Cells.{cells_of, walked_keys}
 use Rattle.lf_graph.specs.FlatRows.{chain_of}
-use Rattle.lf_graph.proofs.FieldPairs.{fields_without}
-use Rattle.lf_graph.proofs.FlatFound.{is_there, list_here, value_found}
-use Rattle.lf_graph.proofs.FlatFound as found
-use Rattle.lf_graph.proofs.FlatSteps.{flat_refielded, rows_refielded, rows_untouched, stored_named}
+use Rattle.lf_graph.proofs.FieldTable.FieldPairs.{fields_without}
+use Rattle.lf_graph.proofs.FlatStores.FlatFound.{list_here, row_is_there, seen_as, value_found}
+use Rattle.lf_graph.proofs.FlatStores.FlatFound as found
+use Rattle.lf_graph.proofs.FlatStores.FlatSteps.{flat_refielded, rows_refielded, rows_untouched, stored_named}
 use Rattle.lf_graph.proofs.flat_store.FlatStoreStore.take_field.Goals as goal
 
 pub returns-in_default-clause-value : goal.returns-in_default-clause-value
-returns-in_default-clause-value g c = sym (found.no_value c.self.inside.chains c.self.inside.cells c.self.invariant c.args.self.now c.self.view_is c.args.o c.requires.there c.args.key (sym c.in_default.ensures))
+returns-in_default-clause-value g c = sym (found.no_value (seen_as c.self.invariant c.self.view_is) c.args.o c.requires.there c.args.key (sym c.in_default.ensures))
 
 pub returns-in_default-clause-rows : goal.returns-in_default-clause-rows
 returns-in_default-clause-rows g c =
-    let r = found.there c.self.inside.chains c.self.inside.cells c.self.invariant c.args.self.now c.self.view_is c.args.o c.requires.there in
-    rows_untouched c.self.inside.chains c.self.inside.cells c.self.invariant c.args.self.now c.self.view_is c.args.o r.row r.kept_is c.args.key (sym c.in_default.ensures)
+    let before = seen_as c.self.invariant c.self.view_is in
+    let r = found.there before c.args.o c.requires.there in
+    rows_untouched before c.args.o r.row r.kept_is c.args.key (sym c.in_default.ensures)
 
 pub invariant_of-self : goal.invariant_of-self
-invariant_of-self g c = flat_refielded c.self.inside.chains c.set.new.self c.self.inside.cells c.unlink-fields.new.self c.self.invariant c.args.self.now c.self.view_is c.args.o c.row-row.result c.row-row.ensures.row (c.set.ensures.lists (chain_of c.self.inside.chains) c.self.invariant.chains) c.unlink-fields.ensures.others c.unlink-fields.result (without same_key c.args.key (walked_keys (cells_of c.self.inside.cells) c.args.o c.row-row.result.fields)) (c.unlink-fields.ensures.lists (walked_keys (cells_of c.self.inside.cells) c.args.o c.row-row.result.fields) (list_here c.self.inside.chains c.self.inside.cells c.self.invariant c.args.self.now c.self.view_is c.args.o c.row-row.result c.row-row.ensures.row)) (stored_named _ _ c.row-row.result.name c.args.o _ c.row-row.ensures.named c.set.ensures.rows)
+invariant_of-self g c =
+    let before = seen_as c.self.invariant c.self.view_is in
+    let r = c.row-row.result in
+    let keys = walked_keys (cells_of c.self.inside.cells) c.args.o r.fields in
+    flat_refielded c.set.new.self c.unlink-fields.new.self before c.args.o r c.row-row.ensures.row (c.set.ensures.lists (chain_of c.self.inside.chains) c.self.invariant.chains) c.unlink-fields.ensures.others
+    c.unlink-fields.result (without same_key c.args.key keys) (c.unlink-fields.ensures.lists keys (list_here before c.args.o r c.row-row.ensures.row)) (stored_named _ _ r.name c.args.o _ c.row-row.ensures.named c.set.ensures.rows)
 
 pub returns-clause-value : goal.returns-clause-value
-returns-clause-value g c = sym (value_found c.self.inside.chains c.self.inside.cells c.self.invariant c.args.self.now c.self.view_is c.args.o c.row-row.result c.row-row.ensures.row c.args.key ∙ ap (option_map (λ (x : Cell). x.value)) (sym c.in-Some.ensures))
+returns-clause-value g c =
+    sym (value_found (seen_as c.self.invariant c.self.view_is) c.args.o c.row-row.result c.row-row.ensures.row c.args.key ∙ ap (option_map (λ (x : Cell). x.value)) (sym c.in-Some.ensures))
 
 pub returns-clause-rows : goal.returns-clause-rows
-returns-clause-rows g c = rows_refielded c.self.inside.chains c.set.new.self c.self.inside.cells c.unlink-fields.new.self c.self.invariant c.args.self.now c.self.view_is c.args.o c.row-row.result c.row-row.ensures.row (c.set.ensures.lists (chain_of c.self.inside.chains) c.self.invariant.chains) c.unlink-fields.ensures.others c.unlink-fields.result (without same_key c.args.key (walked_keys (cells_of c.self.inside.cells) c.args.o c.row-row.result.fields)) (c.unlink-fields.ensures.lists (walked_keys (cells_of c.self.inside.cells) c.args.o c.row-row.result.fields) (list_here c.self.inside.chains c.self.inside.cells c.self.invariant c.args.self.now c.self.view_is c.args.o c.row-row.result c.row-row.ensures.row)) (stored_named _ _ c.row-row.result.name c.args.o _ c.row-row.ensures.named c.set.ensures.rows)
+returns-clause-rows g c =
+    let before = seen_as c.self.invariant c.self.view_is in
+    let r = c.row-row.result in
+    let keys = walked_keys (cells_of c.self.inside.cells) c.args.o r.fields in
+    let list = list_here before c.args.o r c.row-row.ensures.row in
+    rows_refielded c.set.new.self c.unlink-fields.new.self before c.args.o r c.row-row.ensures.row (c.set.ensures.lists (chain_of c.self.inside.chains) c.self.invariant.chains) c.unlink-fields.ensures.others
+    c.unlink-fields.result (without same_key c.args.key keys) (c.unlink-fields.ensures.lists keys list) (stored_named _ _ r.name c.args.o _ c.row-row.ensures.named c.set.ensures.rows)
     (λ fields. drop_field fields c.args.key)
-    (fields_without (cells_of c.self.inside.cells) (cells_of c.unlink-fields.new.self) c.args.o c.args.key c.row-row.result.fields (walked_keys (cells_of c.self.inside.cells) c.args.o c.row-row.result.fields) c.unlink-fields.ensures.value (list_here c.self.inside.chains c.self.inside.cells c.self.invariant c.args.self.now c.self.view_is c.args.o c.row-row.result c.row-row.ensures.row))
+    (fields_without (cells_of c.self.inside.cells) (cells_of c.unlink-fields.new.self) c.args.o c.args.key r.fields keys c.unlink-fields.ensures.value list)

@@ -1,7 +1,7 @@
 use Rattle.std.proofs.Common.{subst, sym, ◌∙◌, ◌≡◌}
 use Rattle.std.specs.Option.{IfSome}
 use Rattle.slab.specs.Slab.{get}
-use Rattle.lf_graph.proofs.RowTableSteps.{name_found}
+use Rattle.lf_graph.proofs.LinkedRows.RowTableSteps.{name_found}
 use Rattle.lf_graph.proofs.row_table.RowTable.get.Goals as goal
 
 pub returns-clause-named : goal.returns-clause-named

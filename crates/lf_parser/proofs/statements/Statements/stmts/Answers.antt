@@ -1,6 +1,6 @@
 use Rattle.std.proofs.Common.{rules, map}
 use Rattle.lf_parser.specs.Plain.{plain_stmt}
-use Rattle.lf_parser.proofs.Steps.{more_stmt_short}
+use Rattle.lf_parser.proofs.Rules.LoopSteps.{more_stmt_short}
 use Rattle.lf_parser.proofs.statements.Statements.stmts.Goals as goal
 
 pub loop-cursor-smaller : goal.loop-cursor-smaller

@@ -1,5 +1,5 @@
 use Rattle.std.proofs.Common.{sym}
-use Rattle.lf_regions.proofs.KeptEntries.{found_key, found_name, kept_rising, number_found}
+use Rattle.lf_regions.proofs.KeptRegions.{found_key, found_name, kept_order, number_found}
 use Rattle.lf_regions.proofs.table.RegionTable.borrowed.Goals as goal
 
 pub index-requires : goal.index-requires
@@ -12,4 +12,4 @@ pub returns-clause-number : goal.returns-clause-number
 returns-clause-number c = sym (number_found c.self.inside.regions c.self.inside.index.entries c.self.invariant c.args.self.now c.self.view_is c.args.r c.index.result.now c.index.ensures c.index-2.result.now c.index-2.ensures)
 
 pub returns-clause-rising : goal.returns-clause-rising
-returns-clause-rising c = rw (← c.self.view_is) (kept_rising c.self.inside.regions c.self.inside.index.entries c.self.invariant)
+returns-clause-rising c = rw (← c.self.view_is) (kept_order c.self.inside.regions c.self.inside.index.entries c.self.invariant)

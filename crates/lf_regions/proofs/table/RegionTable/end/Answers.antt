@@ -1,5 +1,5 @@
-use Rattle.std.proofs.Common.{◌∙◌, sym}
-use Rattle.lf_regions.proofs.KeptEntries.{absent_name, ended, ended_keeps, found_key, kept_rising}
+use Rattle.std.proofs.Common.{◌∙◌, ap, arith, cond, is_some, length, sym, ℕ}
+use Rattle.lf_regions.proofs.KeptRegions.{absent_name, ended_keeps, found_key, kept_order, regions_ended}
 use Rattle.lf_regions.proofs.table.RegionTable.end.Goals as goal
 
 pub remove-requires-in-Some : goal.remove-requires-in-Some
@@ -9,20 +9,17 @@ pub invariant_of-self : goal.invariant_of-self
 invariant_of-self c =
     rw c.remove.ensures.entries (
     ended_keeps c.self.inside.regions c.remove-in-Some.new.self c.self.inside.index.entries c.self.invariant c.args.r c.in-Some.key
-    (sym c.remove.ensures.value ∙ c.in-Some.is) c.remove-in-Some.ensures.updates)
+    (sym c.remove.ensures.value ∙ c.in-Some.is) c.remove-in-Some.ensures.updates
+    (omega (arith, c.remove-in-Some.ensures.len, c.remove.ensures.len, ap length c.remove.ensures.entries, c.self.invariant.count, ap {B = ℕ} (λ o. cond (is_some o) 1 0) c.in-Some.is)))
 
 pub returns-in-Some-clause-ended : goal.returns-in-Some-clause-ended
 returns-in-Some-clause-ended c =
     rw (← c.self.view_is, c.remove.ensures.entries) (
-    ended c.self.inside.regions c.remove-in-Some.new.self c.self.inside.index.entries c.self.invariant c.args.r c.in-Some.key
+    regions_ended c.self.inside.regions c.remove-in-Some.new.self c.self.inside.index.entries c.self.invariant c.args.r c.in-Some.key
     (sym c.remove.ensures.value ∙ c.in-Some.is) c.remove-in-Some.ensures.updates)
 
 pub returns-in-Some-clause-rising : goal.returns-in-Some-clause-rising
-returns-in-Some-clause-rising c =
-    rw c.remove.ensures.entries (
-    kept_rising c.remove-in-Some.new.self _
-    (ended_keeps c.self.inside.regions c.remove-in-Some.new.self c.self.inside.index.entries c.self.invariant c.args.r c.in-Some.key
-    (sym c.remove.ensures.value ∙ c.in-Some.is) c.remove-in-Some.ensures.updates))
+returns-in-Some-clause-rising c = kept_order _ _ (invariant_of-self c)
 
 pub returns-in_default-clause-ended : goal.returns-in_default-clause-ended
 returns-in_default-clause-ended c =

@@ -1,5 +1,5 @@
 use Rattle.std.proofs.Common.{sym}
-use Rattle.lf_regions.proofs.KeptEntries.{flag_found, found_key, found_name, kept_rising}
+use Rattle.lf_regions.proofs.KeptRegions.{flag_found, found_key, found_name, kept_order}
 use Rattle.lf_regions.proofs.table.RegionTable.is_owned.Goals as goal
 
 pub index-requires : goal.index-requires
@@ -12,4 +12,4 @@ pub returns-clause-flag : goal.returns-clause-flag
 returns-clause-flag c = sym (flag_found c.self.inside.regions c.self.inside.index.entries c.self.invariant c.args.self.now c.self.view_is c.args.r c.index.result.now c.index.ensures c.index-2.result.now c.index-2.ensures)
 
 pub returns-clause-rising : goal.returns-clause-rising
-returns-clause-rising c = rw (← c.self.view_is) (kept_rising c.self.inside.regions c.self.inside.index.entries c.self.invariant)
+returns-clause-rising c = rw (← c.self.view_is) (kept_order c.self.inside.regions c.self.inside.index.entries c.self.invariant)

@@ -1,4 +1,4 @@
-use Rattle.lf_regions.proofs.KeptEntries.{flag_written, found_key, found_name, kept_rising, write_keeps}
+use Rattle.lf_regions.proofs.KeptRegions.{flag_written, found_key, found_name, kept_order, write_keeps}
 use Rattle.lf_regions.proofs.table.RegionTable.set_owned.Goals as goal
 
 pub index-key-requires : goal.index-key-requires
@@ -18,6 +18,4 @@ returns-clause-set c =
     c.args.owned
 
 pub returns-clause-rising : goal.returns-clause-rising
-returns-clause-rising c =
-    kept_rising _ _ (write_keeps c.self.inside.regions c.self.inside.index.entries c.self.invariant c.args.self.now c.self.view_is c.args.r c.index-key.result.now c.index-key.ensures c.index_mut.result.now c.index_mut.ensures.value
-    c.index_mut.result.now.borrowed c.args.owned)
+returns-clause-rising c = kept_order _ _ (invariant_of-self c)

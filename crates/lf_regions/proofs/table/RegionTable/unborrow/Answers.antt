@@ -1,5 +1,5 @@
 use Rattle.std.proofs.Common.{◌-◌, ap, arith, sym}
-use Rattle.lf_regions.proofs.KeptEntries.{found_key, found_name, kept_rising, number_found, number_written, write_keeps}
+use Rattle.lf_regions.proofs.KeptRegions.{found_key, found_name, kept_order, number_found, number_written, write_keeps}
 use Rattle.lf_regions.proofs.table.RegionTable.unborrow.Goals as goal
 
 pub index-key-requires : goal.index-key-requires
@@ -23,6 +23,4 @@ returns-clause-subtracted c =
     (ap (λ n. n - c.args.by) (sym (number_found c.self.inside.regions c.self.inside.index.entries c.self.invariant c.args.self.now c.self.view_is c.args.r c.index-key.result.now c.index-key.ensures c.index_mut.result.now c.index_mut.ensures.value)))
 
 pub returns-clause-rising : goal.returns-clause-rising
-returns-clause-rising c =
-    kept_rising _ _ (write_keeps c.self.inside.regions c.self.inside.index.entries c.self.invariant c.args.self.now c.self.view_is c.args.r c.index-key.result.now c.index-key.ensures c.index_mut.result.now c.index_mut.ensures.value
-    (c.index_mut.result.now.borrowed - c.args.by) c.index_mut.result.now.owned)
+returns-clause-rising c = kept_order _ _ (invariant_of-self c)

@@ -1,8 +1,0 @@
-use Rattle.lf_base.proofs.MergeWhole.{dissolve_values, merge_values}
-use Rattle.lf_base.proofs.laws.merge_keeps.Goals as goal
-
-pub returns-clause-merged : goal.returns-clause-merged
-returns-clause-merged c = merge_values
-
-pub returns-clause-dissolved : goal.returns-clause-dissolved
-returns-clause-dissolved c = dissolve_values

@@ -1,5 +1,0 @@
-use Rattle.lf_base.proofs.OwnersGoRound.{none_above, round_none}
-use Rattle.lf_base.proofs.laws.owners_go_round.Goals as goal
-
-pub returns : goal.returns
-returns c s = (none_above s, round_none s)

@@ -1,0 +1,4 @@
+-- The rows of all owners, linked in their order.
+pub mod RowTableSteps
+pub mod ChainLemmas
+pub mod ChainWrites

@@ -1,0 +1,5 @@
+pub mod Rows
+pub mod Owners
+pub mod Writes
+pub mod Changes
+pub mod Dropping

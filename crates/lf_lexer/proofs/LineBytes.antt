@@ -1,0 +1,3 @@
+-- Of the bytes that are left of a script, those of the line that they begin with.
+pub mod LineRests
+pub mod Spaces

@@ -1,4 +1,0 @@
-use Rattle.lf_parser.proofs.grammar.+read.Given as goal
-
-abbrev pub decreases-read : goal.decreases-read
-decreases-read l = l.levels

@@ -1,0 +1,17 @@
+//! What every store of rows has to pass, and the tests of the stores and of the table of
+//! regions.
+//!
+//! It stands on `lf_graph`, `lf_regions` and `lf_base`. `trials` has calls of any store
+//! that ask for nothing, and `cases` drives them by a table: `failed_case` names the first
+//! case that a store fails. A new store is added to `store_tests`, with one test.
+#![tactic(auto)]
+
+mod calls;
+pub mod cases;
+mod contents;
+mod moved_regions;
+#[cfg(test)]
+mod region_tests;
+#[cfg(test)]
+mod store_tests;
+pub mod trials;
