@@ -2,6 +2,8 @@
 use Rattle.std.specs.Prelude.{Bool, List, None, Option, Some, [], cond, not, ℕ, ◌∷◌}
 use Rattle.lf_base.specs.declared.ids.ObjId.{ObjId}
 use Rattle.lf_base.specs.declared.values.Owner.{Owner}
+use Rattle.lf_base.specs.declared.questions.Label.{Label}
+use Rattle.lf_base.specs.declared.questions.Label.TheVariants as label
 use Rattle.lf_base.specs.declared.values.Owner.TheVariants.{Frozen, In, Local}
 use Rattle.lf_base.specs.declared.values.Value.{Value}
 use Rattle.lf_base.specs.declared.values.Value.TheVariants.{Cown, Obj}
@@ -11,26 +13,18 @@ use Rattle.lf_base.specs.PlainChanges.{with_slot_at}
 use Rattle.lf_base.specs.PlainState.{State}
 use Rattle.lf_base.specs.WalkCounts.{borrowed, is_open, open_children, refs}
 
--- where a value stands: a local object, an object in a region, a frozen object, a cown, or a plain value
-pub data Standing : Type 0 where
-  LocalObject : Standing
-  RegionObject : Standing
-  FrozenObject : Standing
-  AnyCown : Standing
-  PlainValue : Standing
-
 -- where an object stands, by its owner
-abbrev pub standing_by : Option Owner → Standing
-standing_by (Some Local) = LocalObject
-standing_by (Some (In r)) = RegionObject
-standing_by (Some Frozen) = FrozenObject
-standing_by None = FrozenObject
+abbrev pub label_by : Option Owner → Label
+label_by (Some Local) = label.Local
+label_by (Some (In r)) = label.Region
+label_by (Some Frozen) = label.Frozen
+label_by None = label.Frozen
 
 -- owner(x) of the value of x
-abbrev pub standing : State → Value → Standing
-standing s (Obj o) = standing_by (owner_of s o)
-standing s (Cown c) = AnyCown
-standing s _ = PlainValue
+abbrev pub label_of : State → Value → Label
+label_of s (Obj o) = label_by (owner_of s o)
+label_of s (Cown c) = label.Cown
+label_of s _ = label.Value
 
 -- the count of the first object, where it is mutable
 abbrev pub first_refs : State → List ObjId → Option ℕ

@@ -17,6 +17,7 @@ mod limits;
 mod links;
 mod lists;
 mod memory;
+mod questions;
 mod refusals;
 mod steps;
 mod stored;
@@ -34,6 +35,7 @@ pub use limits::{
 pub use links::Link;
 pub use lists::{Cowns, Fields, Held, Line, Lines, Listed, Order, Spawns, Values};
 pub use memory::OutOfMemory;
+pub use questions::{Answer, Label, Question};
 pub use refusals::{Place, ReadFail, Refusal, RefusalKind};
 pub use steps::Steps;
 pub use stored::Stored;

@@ -1,6 +1,7 @@
 //! Measures the flat store: `lf_bench N` makes N rows, links each to the one before,
-//! gives all to a region, walks over them and drops them. It writes the number of rows of
-//! each step to standard output, and the time so far to standard error.
+//! gives all to a region, walks over them and drops them; then it gives one row N fields
+//! and walks over these. It writes the number of rows or fields of each step to standard
+//! output, and the time so far to standard error.
 //!
 //! It stands on `lf_trials`, by whose calls it works a store of `lf_graph`, so that it needs
 //! no proof of its own about rows.
@@ -10,7 +11,9 @@ ghost use Rattle.std.specs.Prelude.{◌≡◌, ◌<◌};
 
 use lf_base::{Key, ObjId, OutOfMemory, Owner, Steps, Value};
 use lf_graph::{FlatStore, Store};
-use lf_trials::trials::{next_of, offer_field, offer_owner, offer_ref, offer_row, withdraw_row};
+use lf_trials::trials::{
+    next_field_of, next_of, offer_field, offer_owner, offer_ref, offer_row, withdraw_row,
+};
 use std::marker::Brand;
 use std::process::ExitCode;
 use std::rt::{Clock, Env};
@@ -80,6 +83,33 @@ fn drop_all<S: Store, L: Ledger>(store: &mut S, count: u32, steps: &mut Steps<L>
     }
 }
 
+// Makes a row with so many fields.
+fn fill<S: Store, L: Ledger>(
+    store: &mut S,
+    o: ObjId,
+    count: u32,
+    steps: &mut Steps<L>,
+) -> Result<(), OutOfMemory> {
+    offer_row(store, o, Owner::Local, steps)?;
+    for n in 0..count {
+        let n = i64::from(n);
+        offer_field(store, o, Key::Int(n), Value::Int(n), steps)?;
+    }
+    Ok(())
+}
+
+// The number of a row's fields, no more than `count`, by a walk from each to the next.
+fn walk_fields<S: Store, L: Ledger>(store: &S, o: ObjId, count: u32, steps: &mut Steps<L>) -> u32 {
+    let mut last = None;
+    for walked in 0..count {
+        let Some((key, _value)) = next_field_of(store, o, last, steps) else {
+            return walked;
+        };
+        last = Some(key);
+    }
+    count
+}
+
 fn report<R: Print + Eprint + Clock + AllocGlobal>(
     rt: &R,
     step: &str,
@@ -92,6 +122,50 @@ fn report<R: Print + Eprint + Clock + AllocGlobal>(
 }
 
 // Makes, links, gives, walks over and drops so many rows.
+fn measure_rows<S: Store, L: Ledger, R: Print + Eprint + Clock + AllocGlobal>(
+    rt: &R,
+    store: &mut S,
+    count: u32,
+    start: &Instant,
+    steps: &mut Steps<L>,
+) -> io::Result<()> {
+    if make(store, count, steps).is_err() {
+        return report(rt, "no memory", 0, start);
+    }
+    report(rt, "made", count, start)?;
+    if link(store, count, steps).is_err() {
+        return report(rt, "no memory", 0, start);
+    }
+    report(rt, "linked", count, start)?;
+    if give(store, count, steps).is_err() {
+        return report(rt, "no memory", 0, start);
+    }
+    report(rt, "given", walk(store, count, steps), start)?;
+    drop_all(store, count, steps);
+    report(rt, "left", walk(store, count, steps), start)
+}
+
+// Gives one row so many fields, and walks over them.
+fn measure_fields<S: Store, L: Ledger, R: Print + Eprint + Clock + AllocGlobal>(
+    rt: &R,
+    store: &mut S,
+    count: u32,
+    start: &Instant,
+    steps: &mut Steps<L>,
+) -> io::Result<()> {
+    if fill(store, row(0), count, steps).is_err() {
+        return report(rt, "no memory", 0, start);
+    }
+    report(rt, "filled", count, start)?;
+    report(
+        rt,
+        "fields",
+        walk_fields(store, row(0), count, steps),
+        start,
+    )
+}
+
+// Measures a store with so many rows, and with a row of so many fields.
 fn measure<S: Store, L: Ledger, R: Print + Eprint + Clock + AllocGlobal>(
     rt: &R,
     count: u32,
@@ -106,20 +180,8 @@ fn measure<S: Store, L: Ledger, R: Print + Eprint + Clock + AllocGlobal>(
     let Ok(mut store) = S::new(rt.alloc()) else {
         return report(rt, "no memory", 0, &start);
     };
-    if make(&mut store, count, &mut steps).is_err() {
-        return report(rt, "no memory", 0, &start);
-    }
-    report(rt, "made", count, &start)?;
-    if link(&mut store, count, &mut steps).is_err() {
-        return report(rt, "no memory", 0, &start);
-    }
-    report(rt, "linked", count, &start)?;
-    if give(&mut store, count, &mut steps).is_err() {
-        return report(rt, "no memory", 0, &start);
-    }
-    report(rt, "given", walk(&store, count, &mut steps), &start)?;
-    drop_all(&mut store, count, &mut steps);
-    report(rt, "left", walk(&store, count, &mut steps), &start)
+    measure_rows(rt, &mut store, count, &start, &mut steps)?;
+    measure_fields(rt, &mut store, count, &start, &mut steps)
 }
 
 // The number of rows: the first argument.

@@ -2,3 +2,4 @@
 pub mod RowTableSteps
 pub mod ChainLemmas
 pub mod ChainWrites
+pub mod ChainMoves

@@ -2,6 +2,8 @@
 pub mod Reordered
 pub mod Changes
 pub mod StateRows
+pub mod RowLists
 pub mod Walks
+pub mod FieldWalks
 pub mod AfterCalls
 pub mod RowsByOwner

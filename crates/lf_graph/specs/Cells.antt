@@ -70,6 +70,11 @@ paired cells o k = (k, found_value (cell_value cells o k))
 abbrev pub pairs : CellsAt → ObjId → List Key → List (Key × Value)
 pairs cells o keys = map (paired cells o) keys
 
+-- the key that is given, with its value, where there is one
+abbrev pub pair_of : CellsAt → ObjId → Option Key → Option (Key × Value)
+pair_of cells o None = None
+pair_of cells o (Some k) = option_map (λ c. (k, c.value)) (cells o k)
+
 -- the cells of every other row are as before
 abbrev pub OthersStay : CellsAt → CellsAt → ObjId → Type 0
 OthersStay old new o = (q : ObjId) → (k : Key) → same_name o q ≡ false → new q k ≡ old q k

@@ -1,9 +1,10 @@
 -- Chains: the rows of each owner as a linked list, by the links that are kept with rows and the ends that are kept for owners.
-use Rattle.std.specs.Prelude.{Bool, List, None, Option, Some, [], cond, false, ◌++◌, ◌∷◌, ◌≡◌}
+use Rattle.std.specs.Prelude.{Bool, List, None, Option, Some, [], cond, false, ℕ, ◌++◌, ◌∷◌, ◌≡◌}
 use Rattle.std.specs.Option.{option_map}
 use Rattle.lf_base.specs.declared.ids.ObjId.{ObjId}
 use Rattle.lf_base.specs.declared.values.Owner.{Owner}
 use Rattle.lf_base.specs.Names.{same_name, same_owner}
+use Rattle.lf_graph.specs.declared.cells.FieldEnds.{FieldEnds}
 use Rattle.lf_graph.specs.declared.ends.Ends.{Ends}
 use Rattle.lf_base.specs.declared.links.Link.{Link}
 use Rattle.lf_graph.specs.declared.stored_row.Linked.{Linked}
@@ -86,13 +87,41 @@ module _ (heads : HeadsAt) (ends : Owner → Option Ends) where
 abbrev pub OnlyRowAt : HeadsAt → HeadsAt → ObjId → Option Linked → Type 0
 OnlyRowAt old new o v = (q : ObjId) → new q ≡ cond (same_name o q) v (old q)
 
+-- only the row of that name changes, where there is one, and f says how
+abbrev pub ChangesRowAt : HeadsAt → HeadsAt → ObjId → (Linked → Linked) → Type 0
+ChangesRowAt old new o f = OnlyRowAt old new o (option_map f (old o))
+
+-- a row with other neighbours
+abbrev pub relink_head : (Link ObjId → Link ObjId) → Linked → Linked
+relink_head f h = record h { link = f h.link }
+
+-- a row with the same neighbours
+abbrev pub restore_head : (StoredRow → StoredRow) → Linked → Linked
+restore_head f h = record h { row = f h.row }
+
+-- a row under another owner
+abbrev pub reown : Owner → StoredRow → StoredRow
+reown w r = record r { owner = w }
+
+-- a row under another owner, where it comes last after that one
+abbrev pub reown_head : Owner → Option ObjId → Linked → Linked
+reown_head w prev h = record { row = reown w h.row; link = record { prev = prev; next = None } }
+
+-- a row with another count
+abbrev pub recount : (ℕ → ℕ) → StoredRow → StoredRow
+recount f r = record r { refs = f r.refs }
+
+-- a row with other fields
+abbrev pub refield : FieldEnds → StoredRow → StoredRow
+refield fields r = record r { fields = fields }
+
 -- only the ends of one owner change
 abbrev pub OnlyEndsOf : (Owner → Option Ends) → (Owner → Option Ends) → Owner → Option Ends → Type 0
 OnlyEndsOf old new owner v = (w : Owner) → new w ≡ cond (same_owner owner w) v (old w)
 
 -- the lists with o last under that owner
-abbrev pub pushed : (Owner → List ObjId) → Owner → ObjId → Owner → List ObjId
-pushed lists owner o w = cond (same_owner owner w) (lists w ++ o ∷ []) (lists w)
+abbrev pub list_pushed : (Owner → List ObjId) → Owner → ObjId → Owner → List ObjId
+list_pushed lists owner o w = cond (same_owner owner w) (lists w ++ o ∷ []) (lists w)
 
 -- the lists without o
 abbrev pub left_without : (Owner → List ObjId) → ObjId → Owner → List ObjId
@@ -101,3 +130,7 @@ left_without lists o w = without same_name o (lists w)
 -- only the row of that name changes, or comes or goes
 abbrev pub OnlyStoredAt : HeadsAt → HeadsAt → ObjId → Option StoredRow → Type 0
 OnlyStoredAt old new o row = (q : ObjId) → linked_row_at new q ≡ cond (same_name o q) row (linked_row_at old q)
+
+-- only the row of that name changes, where there is one, and f says how
+abbrev pub ChangesStoredAt : HeadsAt → HeadsAt → ObjId → (StoredRow → StoredRow) → Type 0
+ChangesStoredAt old new o f = OnlyStoredAt old new o (option_map f (linked_row_at old o))

@@ -1,6 +1,7 @@
 -- The rows of every store, and what its calls make of them.
 pub mod StoredRows
 pub mod RowChanges
+pub mod StoreCounts
 pub mod Room
 pub mod Parts
 -- The tables of a flat store: rows, their lists, and their fields.

@@ -5,8 +5,7 @@ use Rattle.lf_base.specs.declared.values.Key.{Key}
 use Rattle.lf_base.specs.declared.values.Owner.{Owner}
 use Rattle.lf_base.specs.declared.values.Value.{Value}
 use Rattle.lf_base.specs.TakeResult.{drop_field}
-use Rattle.lf_base.specs.PlainState.{Row}
-use Rattle.lf_base.specs.WriteResult.{is_at, put_field}
+use Rattle.lf_base.specs.WriteResult.{put_field}
 use Rattle.lf_graph.specs.StoredRows.{CountedRow, is_named, row_named}
 
 -- a row with other fields
@@ -66,3 +65,8 @@ moved_under w (Some c) = with_owner w c ∷ []
 -- the row of that name comes last under its new owner
 abbrev pub moved_last : List CountedRow → ObjId → Owner → List CountedRow
 moved_last rows o w = without_row rows o ++ moved_under w (row_named rows o)
+
+-- the rows of those names come last under their new owner, one after the other
+abbrev pub moved_rows : List CountedRow → List ObjId → Owner → List CountedRow
+moved_rows rows [] w = rows
+moved_rows rows (o ∷ os) w = moved_rows (moved_last rows o w) os w

@@ -1,10 +1,11 @@
 //! Callers that know a store by its trait alone. Each is proved for every store.
 
-ghost use Rattle.std.specs.Prelude.{◌≡◌, ◌≢◌, ◌+◌, ◌^◌, ◌-◌, ◌<◌, ◌↔◌, ◌∷◌, [], false, is_some, option_map, slice_get, IfErr, IfOk};
+ghost use Rattle.std.specs.Prelude.{◌≡◌, ◌≢◌, ◌+◌, ◌^◌, ◌-◌, ◌<◌, ◌↔◌, ◌∷◌, [], false, is_some, map, option_map, slice_get, IfErr, IfOk};
 ghost use Rattle.std.specs.Prelude.{IsTrue, OnErr, OnOk};
 ghost use Rattle.std.specs.Bool.{OnFalse, OnTrue};
 ghost use Rattle.lf_base.specs.declared.values.Owner.TheVariants.{In};
-ghost use Rattle.lf_base.specs.Names.{same_name};
+ghost use Rattle.lf_base.specs.Names.{same_key, same_name};
+ghost use Rattle.lf_base.specs.Sets.{Differ};
 ghost use Rattle.lf_graph.specs.Parts.{IsLeft};
 ghost use Rattle.lf_graph.specs.Room.{LowersNone, LowersOwnerOf};
 ghost use Rattle.lf_graph.specs.RowChanges.{lowered, moved_last, new_row, raised, with_field_of, without_field_of, without_row};
@@ -72,6 +73,32 @@ pub fn copy_fields<S: Store, L: Ledger>(
         let Ok(()) = fields.push(field) else {
             return Err(OutOfMemory);
         };
+    }
+    Ok(fields)
+}
+
+/// A copy of a row's fields by a walk from each to the one after it, or `OutOfMemory`.
+pub fn walk_fields<S: Store, L: Ledger>(
+    alloc: Global,
+    store: &S,
+    o: ObjId,
+    steps: &mut Steps<L>,
+) -> Result<Fields, OutOfMemory>
+    requires there { HasRow (S.rows store.now) o }
+    requires differ { Differ same_key (map (λ f. f.0) (fields_at (S.rows store.now) o)) }
+    ensures { IfOk result (λ fields. fields ≡ fields_at (S.rows store.now) o) }
+{
+    let width = store.width(o, steps);
+    let mut fields = Fields::new(alloc);
+    let mut last = None;
+    for _turn in 0..width {
+        let Some(field) = store.field_after(o, last, steps) else {
+            unreachable!()
+        };
+        let Ok(()) = fields.push(field) else {
+            return Err(OutOfMemory);
+        };
+        last = Some(field.0);
     }
     Ok(fields)
 }

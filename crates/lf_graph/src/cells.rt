@@ -4,14 +4,16 @@
 
 ghost use Rattle.std.specs.Prelude.{◌≡◌, ◌<◌, ◌≤◌, ◌+◌, ◌++◌, ◌∷◌, [], List, None, Some, IfOk, IsSome, OnOk, Option, slice_get};
 ghost use Rattle.std.specs.Prelude.{length, map};
+ghost use Rattle.std.specs.Option.{option_copied};
 ghost use Rattle.lf_base.specs.declared.ids.ObjId.{ObjId};
 ghost use Rattle.lf_base.specs.declared.values.Key.{Key};
+ghost use Rattle.lf_base.specs.FieldOrder.{field_after};
 ghost use Rattle.lf_base.specs.Links.{NodesDiffer, after, next_from, to_next, to_prev, without};
 ghost use Rattle.lf_base.specs.Names.{same_key};
 ghost use Rattle.lf_graph.specs.declared.cells.Cell.{Cell};
 ghost use Rattle.lf_graph.specs.declared.cells.FieldEnds.{FieldEnds};
 ghost use Rattle.lf_graph.specs.Cells.{CopiesField, DropsCell, IsFieldList, KeysBecome, OnlyCellAt, OnlyValueAt, OthersStay};
-ghost use Rattle.lf_graph.specs.Cells.{RelinksField, cells_of, cells_room, field_ends_with, field_ends_without, link_of, pairs};
+ghost use Rattle.lf_graph.specs.Cells.{RelinksField, cells_of, cells_room, field_ends_with, field_ends_without, link_of, pair_of, pairs};
 
 use lf_base::{Fields, Key, Link, ObjId, OutOfMemory, Value};
 use std::alloc::Global;
@@ -120,10 +122,11 @@ impl Cells {
     }
 
     /// The cell of a row's key, where there is one.
-    pub fn get(&self, o: ObjId, key: Key) -> Option<Cell>
-        ensures { result ≡ cells_of self.now o key }
+    #[inline(always)]
+    pub fn get(&self, o: ObjId, key: Key) -> Option<&Cell>
+        ensures { option_copied result ≡ cells_of self.now o key }
     {
-        self.cells.get(&FieldName { row: o, key }).copied()
+        self.cells.get(&FieldName { row: o, key })
     }
 
     // Puts a cell where there is room.
@@ -227,6 +230,33 @@ impl Cells {
             Some(cell) => cell.link.next,
             None => None,
         }
+    }
+
+    // The field of a key, where there is one.
+    fn field(&self, o: ObjId, key: Option<Key>) -> Option<(Key, Value)>
+        ensures { result ≡ pair_of (cells_of self.now) o key }
+    {
+        let key = key?;
+        match self.get(o, key) {
+            Some(cell) => Some((key, cell.value)),
+            None => None,
+        }
+    }
+
+    /// The first field of a row.
+    pub fn first(&self, o: ObjId, ends: FieldEnds) -> Option<(Key, Value)>
+        ensures { (keys : List Key) → IsFieldList (cells_of self.now) o ends keys
+            → result ≡ field_after (pairs (cells_of self.now) o keys) None }
+    {
+        self.field(o, ends.first)
+    }
+
+    /// The field after that of a key of a row.
+    pub fn after(&self, o: ObjId, key: Key) -> Option<(Key, Value)>
+        ensures { (ends : FieldEnds) → (keys : List Key) → IsFieldList (cells_of self.now) o ends keys
+            → result ≡ field_after (pairs (cells_of self.now) o keys) (Some key) }
+    {
+        self.field(o, self.next(o, key))
     }
 
     /// The field at a place of a row's fields, counted from 0; `None` past the end. It

@@ -1,14 +1,17 @@
 //! The rows of all owners, each linked with the rows before and after it, so that a row
 //! comes last, goes, and is walked past without a look at any other rows.
 
-ghost use Rattle.std.specs.Prelude.{◌≡◌, ◌<◌, ◌≤◌, ◌+◌, [], List, None, Some, IfSome, IsSome, OnOk};
+ghost use Rattle.std.specs.Prelude.{◌≡◌, ◌<◌, ◌≤◌, ◌+◌, ◌-◌, ◌^◌, [], List, None, Some, IfSome, IsSome, OnOk};
+ghost use Rattle.std.specs.Option.{option_copied};
 ghost use Rattle.lf_base.specs.declared.ids.ObjId.{ObjId};
 ghost use Rattle.lf_base.specs.declared.values.Owner.{Owner};
 ghost use Rattle.lf_base.specs.Links.{after, head_or};
 ghost use Rattle.lf_base.specs.Names.{same_name};
 ghost use Rattle.lf_graph.specs.ChainMaps.{HasLists, ListsBecome, ends_room, heads_of, room_of};
-ghost use Rattle.lf_graph.specs.Chains.{OnlyStoredAt, RelinksNext, RelinksPrev, left_without, linked_owner_at, linked_row_at, pushed};
+ghost use Rattle.lf_graph.specs.Chains.{ChangesStoredAt, OnlyStoredAt, RelinksNext, RelinksPrev, left_without, linked_owner_at};
+ghost use Rattle.lf_graph.specs.Chains.{linked_row_at, list_pushed, recount, refield, reown};
 
+use crate::cells::FieldEnds;
 use crate::owner_ends::OwnerEnds;
 use crate::row_table::RowTable;
 use crate::stored_row::{Linked, StoredRow};
@@ -22,27 +25,25 @@ pub struct Chains {
     ends: OwnerEnds,
 }
 
+// Another row comes after that one, where there is one.
+#[inline(always)]
 fn set_next(rows: &mut RowTable, at: Option<ObjId>, next: Option<ObjId>)
     ensures rows { RelinksNext (heads_of rows.old) (heads_of rows.new) at next }
     ensures room { room_of rows.new ≡ room_of rows.old }
 {
     if let Some(o) = at {
-        if let Some(Linked { row, link }) = rows.get(o) {
-            let link = Link { next, ..link };
-            rows.set(o, Linked { row, link });
-        }
+        rows.set_next(o, next);
     }
 }
 
+// Another row comes before that one, where there is one.
+#[inline(always)]
 fn set_prev(rows: &mut RowTable, at: Option<ObjId>, prev: Option<ObjId>)
     ensures rows { RelinksPrev (heads_of rows.old) (heads_of rows.new) at prev }
     ensures room { room_of rows.new ≡ room_of rows.old }
 {
     if let Some(o) = at {
-        if let Some(Linked { row, link }) = rows.get(o) {
-            let link = Link { prev, ..link };
-            rows.set(o, Linked { row, link });
-        }
+        rows.set_prev(o, prev);
     }
 }
 
@@ -73,19 +74,21 @@ impl Chains {
     }
 
     /// A row, where there is one of that name.
-    pub fn get(&self, o: ObjId) -> Option<StoredRow>
-        ensures row { result ≡ linked_row_at (heads_of self.now.rows) o }
-        ensures named { IfSome result (λ row. row.name ≡ o) }
+    #[inline(always)]
+    pub fn get(&self, o: ObjId) -> Option<&StoredRow>
+        ensures { option_copied result ≡ linked_row_at (heads_of self.now.rows) o }
     {
-        let head = self.rows.get(o)?;
-        Some(head.row)
+        match self.rows.get(o) {
+            Some(head) => Some(&head.row),
+            None => None,
+        }
     }
 
     /// A row that is there.
-    pub fn row(&self, o: ObjId) -> StoredRow
+    #[inline(always)]
+    pub fn row(&self, o: ObjId) -> &StoredRow
         requires { IsSome (linked_row_at (heads_of self.now.rows) o) }
-        ensures row { linked_row_at (heads_of self.now.rows) o ≡ Some result }
-        ensures named { result.name ≡ o }
+        ensures { linked_row_at (heads_of self.now.rows) o ≡ Some result.now }
     {
         let Some(row) = self.get(o) else {
             unreachable!()
@@ -104,6 +107,7 @@ impl Chains {
     }
 
     /// The row after a row under its owner.
+    #[inline(always)]
     pub fn next(&self, o: ObjId) -> Option<ObjId>
         ensures { (lists : Owner → List ObjId) → HasLists self.now lists
             → (w : Owner) → linked_owner_at (heads_of self.now.rows) o ≡ Some w → result ≡ after same_name o (lists w) }
@@ -114,17 +118,61 @@ impl Chains {
         }
     }
 
-    /// Replaces a row that is there by one of the same name and owner.
-    pub fn set(&mut self, row: StoredRow)
-        requires there { linked_owner_at (heads_of self.old.rows) row.name ≡ Some row.owner }
+    /// Replaces the ends of the fields of a row, where there is one of that name.
+    #[inline(always)]
+    pub fn set_fields(&mut self, o: ObjId, fields: FieldEnds)
         ensures lists { ListsBecome self.old self.new (λ lists. lists) }
-        ensures rows { OnlyStoredAt (heads_of self.old.rows) (heads_of self.new.rows) row.name (Some row) }
+        ensures rows { ChangesStoredAt (heads_of self.old.rows) (heads_of self.new.rows) o (refield fields) }
         ensures rows_room { room_of self.new.rows ≡ room_of self.old.rows }
         ensures ends_room { ends_room self.new.ends ≡ ends_room self.old.ends }
     {
-        if let Some(Linked { row: _old, link }) = self.rows.get(row.name) {
-            self.rows.set(row.name, Linked { row, link });
-        }
+        self.rows.set_fields(o, fields);
+    }
+
+    /// Counts one edge more to a row, where there is one of that name.
+    #[inline(always)]
+    pub fn add_ref(&mut self, o: ObjId)
+        requires { IfSome (linked_row_at (heads_of self.old.rows) o) (λ row. row.refs < 2 ^ 64 - 1) }
+        ensures lists { ListsBecome self.old self.new (λ lists. lists) }
+        ensures rows { ChangesStoredAt (heads_of self.old.rows) (heads_of self.new.rows) o (recount (λ n. n + 1)) }
+        ensures rows_room { room_of self.new.rows ≡ room_of self.old.rows }
+        ensures ends_room { ends_room self.new.ends ≡ ends_room self.old.ends }
+    {
+        self.rows.add_ref(o);
+    }
+
+    /// Counts one edge less to a row, where there is one of that name.
+    #[inline(always)]
+    pub fn sub_ref(&mut self, o: ObjId)
+        requires { IfSome (linked_row_at (heads_of self.old.rows) o) (λ row. 0 < row.refs) }
+        ensures lists { ListsBecome self.old self.new (λ lists. lists) }
+        ensures rows { ChangesStoredAt (heads_of self.old.rows) (heads_of self.new.rows) o (recount (λ n. n - 1)) }
+        ensures rows_room { room_of self.new.rows ≡ room_of self.old.rows }
+        ensures ends_room { ends_room self.new.ends ≡ ends_room self.old.ends }
+    {
+        self.rows.sub_ref(o);
+    }
+
+    /// Gives a row that is there to an owner, under whom it comes last.
+    pub fn move_last(&mut self, o: ObjId, owner: Owner)
+        requires there { IsSome (linked_row_at (heads_of self.old.rows) o) }
+        requires ends_room { 0 < ends_room self.old.ends }
+        ensures lists { ListsBecome self.old self.new (λ lists. list_pushed (left_without lists o) owner o) }
+        ensures rows { ChangesStoredAt (heads_of self.old.rows) (heads_of self.new.rows) o (reown owner) }
+        ensures rows_room { room_of self.new.rows ≡ room_of self.old.rows }
+        ensures ends_room { ends_room self.old.ends ≤ ends_room self.new.ends + 1 }
+    {
+        let Some(head) = self.rows.get(o) else {
+            unreachable!()
+        };
+        let from = head.row.owner;
+        let Link { prev, next } = head.link;
+        set_next(&mut self.rows, prev, next);
+        set_prev(&mut self.rows, next, prev);
+        self.ends.cut(from, prev, next);
+        let last = self.ends.push(owner, o);
+        set_next(&mut self.rows, last, Some(o));
+        self.rows.set_owner(o, owner, last);
     }
 
     /// Puts a new row last under its owner.
@@ -132,19 +180,18 @@ impl Chains {
         requires new { linked_row_at (heads_of self.old.rows) row.name ≡ None }
         requires rows_room { 0 < room_of self.old.rows }
         requires ends_room { 0 < ends_room self.old.ends }
-        ensures lists { ListsBecome self.old self.new (λ lists. pushed lists row.owner row.name) }
+        ensures lists { ListsBecome self.old self.new (λ lists. list_pushed lists row.owner row.name) }
         ensures rows { OnlyStoredAt (heads_of self.old.rows) (heads_of self.new.rows) row.name (Some row) }
         ensures rows_room { room_of self.old.rows ≤ room_of self.new.rows + 1 }
         ensures ends_room { ends_room self.old.ends ≤ ends_room self.new.ends + 1 }
     {
-        let last = self.ends.last(row.owner);
+        let last = self.ends.push(row.owner, row.name);
         set_next(&mut self.rows, last, Some(row.name));
         let link = Link {
             prev: last,
             next: None,
         };
         self.rows.insert(row.name, Linked { row, link });
-        self.ends.add(row.owner, row.name);
     }
 
     /// Takes a row out of its owner's list.

@@ -1,4 +1,4 @@
-ghost use Rattle.std.specs.Prelude.{◌≡◌, ◌+◌, length, map, slice_get, IfOk, IfSome, IsSome};
+ghost use Rattle.std.specs.Prelude.{◌≡◌, ◌+◌, ◌<◌, ◌^◌, length, map, slice_get, IfOk, IfSome, IsSome};
 ghost use Rattle.std.specs.Option.{option_map};
 ghost use Rattle.lf_base.specs.declared.values.Owner.TheVariants.{In};
 ghost use Rattle.lf_graph.specs.FlatParts.{CopiesRow, IsPart, IsPartRow, part_cells, part_fields, part_head, part_row, rows_cells};
@@ -15,6 +15,9 @@ use crate::store::RowHead;
 use lf_base::{Fields, Key, Listed, ObjId, OutOfMemory, Owner, Value};
 use std::alloc::Global;
 use std::marker::Model;
+
+// The most rows of a part, so that each has its place by a `u32`.
+const MOST_ROWS: usize = 4_294_967_295;
 
 /// A row out of its store: its name, its count of edges, and its fields in order with
 /// their number.
@@ -140,8 +143,12 @@ impl FlatPart {
         requires flat { IsFlat chains.now cells.now }
         ensures rows { IfOk result (λ part. part.rows ≡ rows_under chains.now cells.now (In region)) }
         ensures region { IfOk result (λ part. part.region ≡ region) }
+        ensures few { IfOk result (λ part. length part.rows < 2 ^ 32) }
     {
         let rows = copied_rows(alloc, chains, cells, region)?;
+        if rows.len() > MOST_ROWS {
+            return Err(OutOfMemory);
+        }
         Ok(FlatPart { region, rows })
     }
 

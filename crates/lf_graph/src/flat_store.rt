@@ -44,19 +44,28 @@ impl FlatStore {
         ensures rows { SameByOwner self.new.rows (with_field_of self.old.rows o key v) }
         ensures room { self.old.spare ≤ self.new.spare + 1 }
     {
-        let row = self.chains.row(o);
-        let fields = self.cells.push_last(o, row.fields, key, v);
-        self.chains.set(StoredRow { fields, ..row });
+        let before = self.chains.row(o).fields;
+        let fields = self.cells.push_last(o, before, key, v);
+        self.chains.set_fields(o, fields);
     }
 
-    // Takes a row out with its fields, where there is one of that name.
+    // Takes a row out with its fields.
     fn drop_row(&mut self, o: ObjId)
+        requires there { HasRow self.old.rows o }
         ensures rows { SameByOwner self.new.rows (without_row self.old.rows o) }
         ensures room { self.old.spare ≤ self.new.spare }
     {
-        if let Some(row) = self.chains.get(o) {
-            let _ = self.chains.unlink(o);
-            self.cells.clear(o, row.fields);
+        let row = self.chains.unlink(o);
+        self.cells.clear(o, row.fields);
+    }
+
+    // Takes a row out with its fields, where there is one of that name.
+    fn drop_if_there(&mut self, o: ObjId)
+        ensures rows { SameByOwner self.new.rows (without_row self.old.rows o) }
+        ensures room { self.old.spare ≤ self.new.spare }
+    {
+        if let Some(_row) = self.chains.get(o) {
+            self.drop_row(o);
         }
     }
 }
@@ -96,7 +105,7 @@ impl FlatStore {
         ensures { SameByOwner self.new.rows (without_rows self.old.rows (map (λ r. r.name) rows.now)) }
     {
         for row in rows {
-            self.drop_row(row.name);
+            self.drop_if_there(row.name);
         }
     }
 
@@ -133,6 +142,7 @@ impl Store for FlatStore {
         })
     }
 
+    #[inline(always)]
     fn owner<L: Ledger>(&self, o: ObjId, steps: &mut Steps<L>) -> Option<Owner> {
         steps.tick();
         let Some(row) = self.chains.get(o) else {
@@ -146,11 +156,13 @@ impl Store for FlatStore {
         self.chains.first(owner)
     }
 
+    #[inline(always)]
     fn next<L: Ledger>(&self, o: ObjId, steps: &mut Steps<L>) -> Option<ObjId> {
         steps.tick();
         self.chains.next(o)
     }
 
+    #[inline(always)]
     fn width<L: Ledger>(&self, o: ObjId, steps: &mut Steps<L>) -> u32 {
         steps.tick();
         self.chains.row(o).fields.width
@@ -160,6 +172,19 @@ impl Store for FlatStore {
         steps.tick();
         let row = self.chains.row(o);
         self.cells.at(o, row.fields, at)
+    }
+
+    fn field_after<L: Ledger>(
+        &self,
+        o: ObjId,
+        after: Option<Key>,
+        steps: &mut Steps<L>,
+    ) -> Option<(Key, Value)> {
+        steps.tick();
+        match after {
+            Some(key) => self.cells.after(o, key),
+            None => self.cells.first(o, self.chains.row(o).fields),
+        }
     }
 
     fn field<L: Ledger>(&self, o: ObjId, key: Key, steps: &mut Steps<L>) -> Option<Value> {
@@ -182,8 +207,9 @@ impl Store for FlatStore {
             self.add_field(o, key, v);
             return None;
         };
+        let old = cell.value;
         self.cells.set_value(o, key, v);
-        Some(cell.value)
+        Some(old)
     }
 
     fn take_field<L: Ledger>(&mut self, o: ObjId, key: Key, steps: &mut Steps<L>) -> Option<Value> {
@@ -191,10 +217,11 @@ impl Store for FlatStore {
         let Some(cell) = self.cells.get(o, key) else {
             return None;
         };
-        let row = self.chains.row(o);
-        let fields = self.cells.unlink(o, row.fields, key);
-        self.chains.set(StoredRow { fields, ..row });
-        Some(cell.value)
+        let value = cell.value;
+        let before = self.chains.row(o).fields;
+        let fields = self.cells.unlink(o, before, key);
+        self.chains.set_fields(o, fields);
+        Some(value)
     }
 
     fn insert<L: Ledger>(&mut self, o: ObjId, owner: Owner, steps: &mut Steps<L>) {
@@ -214,10 +241,10 @@ impl Store for FlatStore {
 
     fn set_owner<L: Ledger>(&mut self, o: ObjId, owner: Owner, steps: &mut Steps<L>) {
         steps.tick();
-        let row = self.chains.unlink(o);
-        self.chains.push_last(StoredRow { owner, ..row });
+        self.chains.move_last(o, owner);
     }
 
+    #[inline(always)]
     fn refs<L: Ledger>(&self, o: ObjId, steps: &mut Steps<L>) -> u64 {
         steps.tick();
         self.chains.row(o).refs
@@ -225,20 +252,12 @@ impl Store for FlatStore {
 
     fn add_ref<L: Ledger>(&mut self, o: ObjId, steps: &mut Steps<L>) {
         steps.tick();
-        let row = self.chains.row(o);
-        self.chains.set(StoredRow {
-            refs: row.refs + 1,
-            ..row
-        });
+        self.chains.add_ref(o);
     }
 
     fn sub_ref<L: Ledger>(&mut self, o: ObjId, steps: &mut Steps<L>) {
         steps.tick();
-        let row = self.chains.row(o);
-        self.chains.set(StoredRow {
-            refs: row.refs - 1,
-            ..row
-        });
+        self.chains.sub_ref(o);
     }
 
     fn reserve(&mut self, _owner: Owner, cells: usize) -> Result<(), OutOfMemory> {

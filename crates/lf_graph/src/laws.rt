@@ -1,22 +1,25 @@
 //! What callers need of the rows of a store, whatever keeps them. Each function has
 //! an empty body; its clauses are the law.
 
-ghost use Rattle.std.specs.Prelude.{◌≡◌, ◌+◌, ◌-◌, ◌++◌, ◌∷◌, [], List, None, Some, filter, map, not, if◌then◌else◌};
+ghost use Rattle.std.specs.Prelude.{◌≡◌, ◌+◌, ◌-◌, ◌++◌, ◌∷◌, [], List, None, Option, Some, filter, map, not, if◌then◌else◌};
 ghost use Rattle.std.specs.Option.{option_map};
 ghost use Rattle.lf_base.specs.declared.ids.ObjId.{ObjId};
 ghost use Rattle.lf_base.specs.declared.values.Key.{Key};
 ghost use Rattle.lf_base.specs.declared.values.Owner.{Owner};
 ghost use Rattle.lf_base.specs.declared.values.Value.{Value};
+ghost use Rattle.lf_base.specs.FieldOrder.{field_after};
 ghost use Rattle.lf_base.specs.FreezeResult.{insert_rows};
-ghost use Rattle.lf_base.specs.Names.{same_name, same_owner};
-ghost use Rattle.lf_base.specs.Owners.{row_at};
+ghost use Rattle.lf_base.specs.Links.{head_or};
+ghost use Rattle.lf_base.specs.Names.{same_key, same_name, same_owner};
+ghost use Rattle.lf_base.specs.Owners.{has_name, row_at};
 ghost use Rattle.lf_base.specs.PlainChanges.{insert_row};
 ghost use Rattle.lf_base.specs.PlainState.{Row};
+ghost use Rattle.lf_base.specs.Sets.{Differ, Member};
 ghost use Rattle.lf_base.specs.TakeResult.{drop_field, take_fields};
 ghost use Rattle.lf_base.specs.WriteResult.{put_field, relabel, write_fields};
 ghost use Rattle.lf_graph.specs.Parts.{AllNew};
-ghost use Rattle.lf_graph.specs.RowChanges.{lowered, moved_last, new_row, raised, with_field_of, with_fields};
-ghost use Rattle.lf_graph.specs.RowChanges.{with_new_row, with_owner, with_refs, without_field_of, without_row};
+ghost use Rattle.lf_graph.specs.RowChanges.{lowered, moved_last, moved_rows, new_row, raised, with_field_of, with_fields};
+ghost use Rattle.lf_graph.specs.RowChanges.{with_new_row, with_owner, with_refs, without_field_of, without_row, without_rows};
 ghost use Rattle.lf_graph.specs.StoredRows.{AreRowsOf, CountedRow, HasRow, IsNewName, NamesDiffer, SameByOwner, first_name};
 ghost use Rattle.lf_graph.specs.StoredRows.{name_after, plain, row_named, rows_beside, rows_by_name, rows_of, rows_outside};
 
@@ -90,6 +93,21 @@ pub fn state_rows()
         → SameByOwner new (rows ++ part) → AreRowsOf new (insert_rows (plain part) of) }
 {}
 
+/// Rows that are dropped, or given to an owner, one after the other by a list of names:
+/// what that makes of the rows, and of those of the state whose store it is, at once.
+pub fn row_lists()
+    ensures dropped { (rows : List CountedRow) (os : List ObjId)
+        → without_rows rows os ≡ filter (λ c. not (has_name os (c.row).name)) rows }
+    ensures same_dropped { (xs ys : List CountedRow) (os : List ObjId) → SameByOwner xs ys
+        → SameByOwner (without_rows xs os) (without_rows ys os) }
+    ensures same_moved { (xs ys : List CountedRow) (os : List ObjId) (w : Owner) → SameByOwner xs ys → NamesDiffer xs
+        → SameByOwner (moved_rows xs os w) (moved_rows ys os w) }
+    ensures state_dropped { (rows new : List CountedRow) (of : List Row) (os : List ObjId) → AreRowsOf rows of
+        → SameByOwner new (without_rows rows os) → AreRowsOf new (filter (λ r. not (has_name os r.name)) of) }
+    ensures state_moved { (rows new : List CountedRow) (of : List Row) (os : List ObjId) (w : Owner) → AreRowsOf rows of
+        → SameByOwner new (moved_rows rows os w) → AreRowsOf new (relabel of os w) }
+{}
+
 /// What is found by name in a store is the state's row, and an owner's rows are those
 /// of the state that have that owner.
 pub fn state_found()
@@ -97,6 +115,15 @@ pub fn state_found()
         → row_at of o ≡ option_map (λ c. c.row) (row_named rows o) }
     ensures under { (rows : List CountedRow) (of : List Row) (w : Owner) → AreRowsOf rows of
         → rows_by_name (plain (rows_of w rows)) ≡ filter (λ r. same_owner r.owner w) of }
+{}
+
+/// A walk by `field_after` goes through a row's fields in their order, where no key
+/// comes twice.
+pub fn field_walks()
+    ensures next { (before after : List (Key × Value)) (f : Key × Value) → Differ same_key (map (λ g. g.0) (before ++ f ∷ after))
+        → field_after (before ++ f ∷ after) (Some f.0) ≡ head_or after None }
+    ensures there { (fields : List (Key × Value)) (after : Option Key) (f : Key × Value) → field_after fields after ≡ Some f
+        → Member f fields }
 {}
 
 /// A walk by `first` and `next` goes through an owner's rows in their order, and where

@@ -1,4 +1,4 @@
-ghost use Rattle.std.specs.Prelude.{◌≡◌, ◌<◌, ◌≤◌, ◌+◌, None, Some, IsSome, OnOk};
+ghost use Rattle.std.specs.Prelude.{◌≡◌, ◌<◌, ◌≤◌, ◌+◌, None, OnOk};
 ghost use Rattle.std.specs.Option.{option_map};
 ghost use Rattle.lf_base.specs.declared.values.Owner.{Owner};
 ghost use Rattle.lf_graph.specs.ChainMaps.{ends_of, ends_room};
@@ -46,80 +46,61 @@ impl OwnerEnds {
         }
     }
 
-    pub fn last(&self, owner: Owner) -> Option<ObjId>
-        ensures { result ≡ option_map (λ ends. ends.last) (ends_of self.now owner) }
-    {
-        match self.get(owner) {
-            Some(ends) => Some(ends.last),
-            None => None,
-        }
-    }
-
-    pub fn put(&mut self, owner: Owner, ends: Ends)
+    /// The row is the owner's last one now. Gives the one that was last before.
+    pub fn push(&mut self, owner: Owner, o: ObjId) -> Option<ObjId>
         requires { 0 < ends_room self.old }
-        ensures ends { OnlyEndsOf (ends_of self.old) (ends_of self.new) owner (Some ends) }
-        ensures room { ends_room self.old ≤ ends_room self.new + 1 }
-    {
-        match owner {
-            Owner::Local => self.local = Some(ends),
-            Owner::Frozen => self.frozen = Some(ends),
-            Owner::In(region) => self.regions.put(region, ends),
-        }
-    }
-
-    // Replaces the ends of an owner that has some.
-    pub fn set(&mut self, owner: Owner, ends: Ends)
-        requires { IsSome (ends_of self.old owner) }
-        ensures ends { OnlyEndsOf (ends_of self.old) (ends_of self.new) owner (Some ends) }
-        ensures room { ends_room self.new ≡ ends_room self.old }
-    {
-        match owner {
-            Owner::Local => self.local = Some(ends),
-            Owner::Frozen => self.frozen = Some(ends),
-            Owner::In(region) => self.regions.set(region, ends),
-        }
-    }
-
-    pub fn clear(&mut self, owner: Owner)
-        ensures ends { OnlyEndsOf (ends_of self.old) (ends_of self.new) owner None }
-        ensures room { ends_room self.old ≤ ends_room self.new }
-    {
-        match owner {
-            Owner::Local => self.local = None,
-            Owner::Frozen => self.frozen = None,
-            Owner::In(region) => self.regions.remove(region),
-        }
-    }
-
-    // The row is the owner's last one now.
-    pub fn add(&mut self, owner: Owner, o: ObjId)
-        requires { 0 < ends_room self.old }
+        ensures last { result ≡ option_map (λ ends. ends.last) (ends_of self.old owner) }
         ensures ends { OnlyEndsOf (ends_of self.old) (ends_of self.new) owner (owner_ends_with o (ends_of self.old owner)) }
         ensures room { ends_room self.old ≤ ends_room self.new + 1 }
     {
-        let ends = match self.get(owner) {
-            Some(ends) => Ends {
-                first: ends.first,
-                last: o,
-            },
-            None => Ends { first: o, last: o },
-        };
-        self.put(owner, ends);
+        match owner {
+            Owner::Local => push(&mut self.local, o),
+            Owner::Frozen => push(&mut self.frozen, o),
+            Owner::In(region) => self.regions.push(region, o),
+        }
     }
 
-    // The row between these two is no row of the owner any more.
+    /// The row between these two is no row of the owner any more.
     pub fn cut(&mut self, owner: Owner, prev: Option<ObjId>, next: Option<ObjId>)
         ensures ends { OnlyEndsOf (ends_of self.old) (ends_of self.new) owner (owner_ends_without prev next (ends_of self.old owner)) }
         ensures room { ends_room self.old ≤ ends_room self.new }
     {
-        let Some(Ends { first, last }) = self.get(owner) else {
-            return;
-        };
-        match (prev, next) {
-            (Some(_), Some(_)) => {}
-            (Some(last), None) => self.set(owner, Ends { first, last }),
-            (None, Some(first)) => self.set(owner, Ends { first, last }),
-            (None, None) => self.clear(owner),
+        match owner {
+            Owner::Local => cut(&mut self.local, prev, next),
+            Owner::Frozen => cut(&mut self.frozen, prev, next),
+            Owner::In(region) => self.regions.cut(region, prev, next),
         }
+    }
+}
+
+// One more row at the end. Gives the one that was last before.
+fn push(ends: &mut Option<Ends>, o: ObjId) -> Option<ObjId>
+    ensures last { result ≡ option_map (λ ends. ends.last) ends.old }
+    ensures ends { ends.new ≡ owner_ends_with o ends.old }
+{
+    match *ends {
+        Some(Ends { first, last }) => {
+            *ends = Some(Ends { first, last: o });
+            Some(last)
+        }
+        None => {
+            *ends = Some(Ends { first: o, last: o });
+            None
+        }
+    }
+}
+
+// The ends without the row between these two.
+fn cut(ends: &mut Option<Ends>, prev: Option<ObjId>, next: Option<ObjId>)
+    ensures { ends.new ≡ owner_ends_without prev next ends.old }
+{
+    let Some(Ends { first, last }) = *ends else {
+        return;
+    };
+    match (prev, next) {
+        (Some(_), Some(_)) => {}
+        (Some(last), None) => *ends = Some(Ends { first, last }),
+        (None, Some(first)) => *ends = Some(Ends { first, last }),
+        (None, None) => *ends = None,
     }
 }

@@ -1,8 +1,11 @@
-ghost use Rattle.std.specs.Prelude.{◌≡◌, ◌<◌, ◌≤◌, ◌+◌, None, Some, IsSome, OnOk};
+ghost use Rattle.std.specs.Prelude.{◌≡◌, ◌<◌, ◌≤◌, ◌+◌, None, Some, OnOk};
+ghost use Rattle.std.specs.Option.{option_map};
 ghost use Rattle.std.proofs.Props.{props};
 ghost use Rattle.std.specs.HashMap.{IsUnique, spare};
 ghost use Rattle.lf_base.specs.declared.ids.ObjId.{ObjId};
 ghost use Rattle.lf_base.specs.Names.{same_name};
+ghost use Rattle.lf_graph.specs.declared.ends.Ends.{Ends};
+ghost use Rattle.lf_graph.specs.Chains.{owner_ends_with, owner_ends_without};
 ghost use Rattle.lf_graph.specs.RegionEnds.{OnlyRegionAt, region_ends};
 
 use crate::ends::Ends;
@@ -43,7 +46,7 @@ impl RegionEnds {
         self.ends.get(&region).copied()
     }
 
-    pub fn put(&mut self, region: ObjId, ends: Ends)
+    fn put(&mut self, region: ObjId, ends: Ends)
         requires { 0 < spare self.old.ends }
         ensures ends { OnlyRegionAt self.old.ends self.new.ends region (Some ends) }
         ensures room { spare self.old.ends ≤ spare self.new.ends + 1 }
@@ -54,18 +57,56 @@ impl RegionEnds {
         }
     }
 
-    // Replaces the ends of a region that has some.
-    pub fn set(&mut self, region: ObjId, ends: Ends)
-        requires { IsSome (region_ends self.old.ends region) }
-        ensures ends { OnlyRegionAt self.old.ends self.new.ends region (Some ends) }
-        ensures room { spare self.new.ends ≡ spare self.old.ends }
+    /// The row is the region's last one now. Gives the one that was last before.
+    pub fn push(&mut self, region: ObjId, o: ObjId) -> Option<ObjId>
+        requires { 0 < spare self.old.ends }
+        ensures last { result ≡ option_map (λ ends. ends.last) (region_ends self.old.ends region) }
+        ensures ends { OnlyRegionAt self.old.ends self.new.ends region (owner_ends_with o (region_ends self.old.ends region)) }
+        ensures room { spare self.old.ends ≤ spare self.new.ends + 1 }
     {
-        if let Some(place) = self.ends.get_mut(&region) {
-            *place = ends;
+        if let Some(ends) = self.ends.get_mut(&region) {
+            let last = ends.last;
+            ends.last = o;
+            return Some(last);
+        }
+        self.put(region, Ends { first: o, last: o });
+        None
+    }
+
+    /// The row between these two is no row of the region any more.
+    pub fn cut(&mut self, region: ObjId, prev: Option<ObjId>, next: Option<ObjId>)
+        ensures ends { OnlyRegionAt self.old.ends self.new.ends region (owner_ends_without prev next (region_ends self.old.ends region)) }
+        ensures room { spare self.old.ends ≤ spare self.new.ends }
+    {
+        match (prev, next) {
+            (Some(_), Some(_)) => {}
+            (Some(last), None) => self.set_last(region, last),
+            (None, Some(first)) => self.set_first(region, first),
+            (None, None) => self.remove(region),
         }
     }
 
-    pub fn remove(&mut self, region: ObjId)
+    fn set_last(&mut self, region: ObjId, last: ObjId)
+        ensures ends { OnlyRegionAt self.old.ends self.new.ends region
+            (option_map (λ (x : Ends). record x { last = last }) (region_ends self.old.ends region)) }
+        ensures room { spare self.new.ends ≡ spare self.old.ends }
+    {
+        if let Some(ends) = self.ends.get_mut(&region) {
+            ends.last = last;
+        }
+    }
+
+    fn set_first(&mut self, region: ObjId, first: ObjId)
+        ensures ends { OnlyRegionAt self.old.ends self.new.ends region
+            (option_map (λ (x : Ends). record x { first = first }) (region_ends self.old.ends region)) }
+        ensures room { spare self.new.ends ≡ spare self.old.ends }
+    {
+        if let Some(ends) = self.ends.get_mut(&region) {
+            ends.first = first;
+        }
+    }
+
+    fn remove(&mut self, region: ObjId)
         ensures ends { OnlyRegionAt self.old.ends self.new.ends region None }
         ensures room { spare self.old.ends ≤ spare self.new.ends }
     {

@@ -1,13 +1,17 @@
-ghost use Rattle.std.specs.Prelude.{◌≡◌, ◌<◌, ◌≤◌, ◌+◌, None, Some, IfSome, IsSome, OnOk, if◌then◌else◌};
+ghost use Rattle.std.specs.Prelude.{◌≡◌, ◌<◌, ◌≤◌, ◌+◌, ◌-◌, ◌^◌, None, Some, IfSome, OnOk, if◌then◌else◌};
+ghost use Rattle.std.specs.Option.{option_copied};
 ghost use Rattle.slab.specs.Slab.{slab_len};
 ghost use Rattle.std.specs.HashMap.{hash_map_len, spare};
 ghost use Rattle.lf_base.specs.Names.{same_name};
 ghost use Rattle.lf_base.specs.declared.ids.ObjId.{ObjId};
-ghost use Rattle.lf_graph.specs.Chains.{OnlyRowAt};
+ghost use Rattle.lf_base.specs.Links.{to_next, to_prev};
+ghost use Rattle.lf_graph.specs.Chains.{ChangesRowAt, OnlyRowAt, recount, refield, relink_head};
+ghost use Rattle.lf_graph.specs.Chains.{reown_head, restore_head};
 ghost use Rattle.lf_graph.specs.RowTables.{NamesLeadToRows, heads_in, row_room, slab_key_of};
 
+use crate::cells::FieldEnds;
 use crate::stored_row::Linked;
-use lf_base::{ObjId, OutOfMemory};
+use lf_base::{ObjId, OutOfMemory, Owner};
 use slab::Slab;
 use std::alloc::Global;
 use std::collections::HashMap;
@@ -61,26 +65,100 @@ impl RowTable {
     }
 
     /// A row with its neighbours, where there is one of that name.
-    pub fn get(&self, o: ObjId) -> Option<Linked>
-        ensures head { result ≡ heads_in self.now.rows self.now.index o }
-        ensures named { IfSome result (λ head. (head.row).name ≡ o) }
+    #[inline(always)]
+    pub fn get(&self, o: ObjId) -> Option<&Linked>
+        ensures { option_copied result ≡ heads_in self.now.rows self.now.index o }
     {
         let key = *self.index.get(&o)?;
-        self.rows.get(key).copied()
+        self.rows.get(key)
     }
 
-    /// Replaces a row that is there.
-    pub fn set(&mut self, o: ObjId, head: Linked)
-        requires there { IsSome (heads_in self.old.rows self.old.index o) }
-        requires named { (head.row).name ≡ o }
-        ensures rows { OnlyRowAt (heads_in self.old.rows self.old.index) (heads_in self.new.rows self.new.index) o (Some head) }
+    /// Another row comes after the row of that name, where there is one.
+    #[inline(always)]
+    pub fn set_next(&mut self, o: ObjId, next: Option<ObjId>)
+        ensures rows { ChangesRowAt (heads_in self.old.rows self.old.index) (heads_in self.new.rows self.new.index) o
+            (relink_head (to_next next)) }
         ensures room { row_room self.new.rows self.new.index ≡ row_room self.old.rows self.old.index }
     {
-        let Some(&key) = self.index.get(&o) else {
-            unreachable!()
-        };
-        if let Some(place) = self.rows.get_mut(key) {
-            *place = head;
+        if let Some(&key) = self.index.get(&o) {
+            if let Some(head) = self.rows.get_mut(key) {
+                head.link.next = next;
+            }
+        }
+    }
+
+    /// Another row comes before the row of that name, where there is one.
+    #[inline(always)]
+    pub fn set_prev(&mut self, o: ObjId, prev: Option<ObjId>)
+        ensures rows { ChangesRowAt (heads_in self.old.rows self.old.index) (heads_in self.new.rows self.new.index) o
+            (relink_head (to_prev prev)) }
+        ensures room { row_room self.new.rows self.new.index ≡ row_room self.old.rows self.old.index }
+    {
+        if let Some(&key) = self.index.get(&o) {
+            if let Some(head) = self.rows.get_mut(key) {
+                head.link.prev = prev;
+            }
+        }
+    }
+
+    /// Puts the row of that name after that one under an owner, where there is such a
+    /// row.
+    #[inline(always)]
+    pub fn set_owner(&mut self, o: ObjId, owner: Owner, prev: Option<ObjId>)
+        ensures rows { ChangesRowAt (heads_in self.old.rows self.old.index) (heads_in self.new.rows self.new.index) o
+            (reown_head owner prev) }
+        ensures room { row_room self.new.rows self.new.index ≡ row_room self.old.rows self.old.index }
+    {
+        if let Some(&key) = self.index.get(&o) {
+            if let Some(head) = self.rows.get_mut(key) {
+                head.row.owner = owner;
+                head.link.prev = prev;
+                head.link.next = None;
+            }
+        }
+    }
+
+    /// Replaces the ends of the fields of the row of that name, where there is one.
+    #[inline(always)]
+    pub fn set_fields(&mut self, o: ObjId, fields: FieldEnds)
+        ensures rows { ChangesRowAt (heads_in self.old.rows self.old.index) (heads_in self.new.rows self.new.index) o
+            (restore_head (refield fields)) }
+        ensures room { row_room self.new.rows self.new.index ≡ row_room self.old.rows self.old.index }
+    {
+        if let Some(&key) = self.index.get(&o) {
+            if let Some(head) = self.rows.get_mut(key) {
+                head.row.fields = fields;
+            }
+        }
+    }
+
+    /// Counts one edge more to the row of that name, where there is one.
+    #[inline(always)]
+    pub fn add_ref(&mut self, o: ObjId)
+        requires { IfSome (heads_in self.old.rows self.old.index o) (λ head. (head.row).refs < 2 ^ 64 - 1) }
+        ensures rows { ChangesRowAt (heads_in self.old.rows self.old.index) (heads_in self.new.rows self.new.index) o
+            (restore_head (recount (λ n. n + 1))) }
+        ensures room { row_room self.new.rows self.new.index ≡ row_room self.old.rows self.old.index }
+    {
+        if let Some(&key) = self.index.get(&o) {
+            if let Some(head) = self.rows.get_mut(key) {
+                head.row.refs += 1;
+            }
+        }
+    }
+
+    /// Counts one edge less to the row of that name, where there is one.
+    #[inline(always)]
+    pub fn sub_ref(&mut self, o: ObjId)
+        requires { IfSome (heads_in self.old.rows self.old.index o) (λ head. 0 < (head.row).refs) }
+        ensures rows { ChangesRowAt (heads_in self.old.rows self.old.index) (heads_in self.new.rows self.new.index) o
+            (restore_head (recount (λ n. n - 1))) }
+        ensures room { row_room self.new.rows self.new.index ≡ row_room self.old.rows self.old.index }
+    {
+        if let Some(&key) = self.index.get(&o) {
+            if let Some(head) = self.rows.get_mut(key) {
+                head.row.refs -= 1;
+            }
         }
     }
 

@@ -3,6 +3,7 @@ ghost use Rattle.std.specs.Option.{option_map};
 ghost use Rattle.lf_base.specs.declared.ids.ObjId.{ObjId};
 ghost use Rattle.lf_base.specs.declared.values.Owner.{Owner};
 ghost use Rattle.lf_base.specs.declared.values.Owner.TheVariants.{In};
+ghost use Rattle.lf_base.specs.FieldOrder.{field_after};
 ghost use Rattle.lf_graph.specs.Parts.{AllNew, row_head};
 ghost use Rattle.lf_graph.specs.Room.{LowersAtMost, LowersNone, LowersOwnerOf, OwnerHasRoom, room_for_field, room_for_row};
 ghost use Rattle.lf_graph.specs.RowChanges.{lowered, moved_last, raised, with_field_of, with_new_row, without_field_of, without_row};
@@ -76,6 +77,18 @@ pub trait Store: Sized + Drop {
     fn field_at<L: Ledger>(&self, o: ObjId, at: u32, steps: &mut Steps<L>) -> Option<(Key, Value)>
         requires there { HasRow (rows self.now) o }
         ensures field { result ≡ slice_get (fields_at (rows self.now) o) at }
+        ensures step { steps.new ≡ steps.old + 1 };
+
+    /// The first field of a row where no key is given, and else the field after that of
+    /// the key; `None` after the last one, and where the row has no field of the key.
+    fn field_after<L: Ledger>(
+        &self,
+        o: ObjId,
+        after: Option<Key>,
+        steps: &mut Steps<L>,
+    ) -> Option<(Key, Value)>
+        requires there { HasRow (rows self.now) o }
+        ensures field { result ≡ field_after (fields_at (rows self.now) o) after }
         ensures step { steps.new ≡ steps.old + 1 };
 
     /// The value of a row's field, where the row has it.
@@ -164,11 +177,12 @@ pub trait Store: Sized + Drop {
         ensures enough { OnOk result (cells ≤ spare self.new owner) }
         ensures room { LowersNone (spare self.old) (spare self.new) };
 
-    /// Takes the rows of a region out, in their order. All other rows stay. After
-    /// `OutOfMemory` all rows stay.
+    /// Takes the rows of a region out, in their order, where they are fewer than 2^32.
+    /// All other rows stay. After `OutOfMemory` all rows stay.
     fn part_out(&mut self, region: ObjId) -> Result<Self::Part, OutOfMemory>
         ensures part { IfOk result (λ part. part_rows part ≡ rows_of (In region) (rows self.old)) }
         ensures region { IfOk result (λ part. part_region part ≡ region) }
+        ensures few { IfOk result (λ part. length (part_rows part) < 2 ^ 32) }
         ensures rows { OnOk result (SameByOwner (rows self.new) (rows_outside (In region) (rows self.old))) }
         ensures unchanged { OnErr result (SameByOwner (rows self.new) (rows self.old)) };
 

@@ -10,3 +10,4 @@ pub mod Freezing
 pub mod RelabelledRegion
 pub mod Dissolving
 pub mod Merging
+pub mod ReadValues

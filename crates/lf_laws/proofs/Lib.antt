@@ -3,3 +3,10 @@ pub mod Owners
 pub mod Writes
 pub mod Changes
 pub mod Dropping
+pub mod Edges
+pub mod Judging
+pub mod Losses
+pub mod KeptStates
+pub mod OwnNames
+pub mod MoreGiven
+pub mod Contents

@@ -2,3 +2,4 @@
 pub mod OwnersGoRound
 pub mod NewOwner
 pub mod PathsOfSets
+pub mod ListedBridges

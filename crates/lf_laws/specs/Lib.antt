@@ -1,2 +1,4 @@
 pub mod Scripts
 pub mod WorkedRows
+pub mod CallScripts
+pub mod HeapRows

@@ -2,6 +2,7 @@
 use Rattle.std.specs.Prelude.{Bool, List, None, Option, Some, [], pos, ℕ, ◌∷◌}
 use Rattle.lf_base.specs.declared.faults.Fault.{Fault}
 use Rattle.lf_base.specs.declared.ids.ObjId.{ObjId}
+use Rattle.lf_base.specs.declared.questions.Label.{Label}
 use Rattle.lf_base.specs.declared.values.Value.{Value}
 use Rattle.lf_base.specs.declared.values.Value.TheVariants.{Cown, Obj}
 use Rattle.lf_base.specs.Accesses.{after_refusal, store_refusal, store_result}
@@ -15,7 +16,7 @@ use Rattle.lf_base.specs.NewCown.{made_result, new_cown_refusal, next_cown}
 use Rattle.lf_base.specs.Owners.{bridge_of}
 use Rattle.lf_base.specs.PlainChanges.{next_object, object_result, region_result, slot_at, with_slot_at}
 use Rattle.lf_base.specs.PlainState.{State}
-use Rattle.lf_base.specs.Questions.{Standing, borrowed_answer, is_closed_answer, open_children_answer, refs_answer, standing}
+use Rattle.lf_base.specs.Questions.{borrowed_answer, is_closed_answer, open_children_answer, label_of, refs_answer}
 use Rattle.lf_base.specs.declared.values.Value.TheVariants as value
 
 -- one statement of a script
@@ -61,9 +62,9 @@ abbrev pub refer : State → ℕ → ObjId → State
 refer s x o = kept (with_slot_at s x (Some (Obj o)))
 
 -- the rest of an operation on a bridge, where there is one
-abbrev pub on_bridge : State → Option ObjId → (ObjId → State) → State
-on_bridge s None f = s
-on_bridge s (Some r) f = f r
+abbrev pub where_bridge : State → Option ObjId → (ObjId → State) → State
+where_bridge s None f = s
+where_bridge s (Some r) f = f r
 
 -- variable x becomes unset, without anything else
 abbrev pub taken_out : State → ℕ → State
@@ -88,9 +89,9 @@ after_statement s (StoreZero x k) = after_refusal (store_refusal s (var s x) (te
     (store_result s (var s x) (key_of (text k)) (value.Int (pos 0)))
 after_statement s (Freeze x) = kept (freeze_result s (var s x))
 after_statement s (Merge x y) = after_refusal (merge_refusal s (var s x) (var s y)) s
-    (on_bridge s (bridge_of s (var s x)) (λ a. on_bridge s (bridge_of s (var s y)) (merge_result s a)))
-after_statement s (Dissolve x) = after_refusal (dissolve_refusal s (var s x)) s (on_bridge s (bridge_of s (var s x)) (dissolve_result s))
-after_statement s (Close x) = after_refusal (close_refusal s x) s (on_bridge s (bridge_of s (var s x)) (close_result s x))
+    (where_bridge s (bridge_of s (var s x)) (λ a. where_bridge s (bridge_of s (var s y)) (merge_result s a)))
+after_statement s (Dissolve x) = after_refusal (dissolve_refusal s (var s x)) s (where_bridge s (bridge_of s (var s x)) (dissolve_result s))
+after_statement s (Close x) = after_refusal (close_refusal s x) s (where_bridge s (bridge_of s (var s x)) (close_result s x))
 after_statement s (Guard c x) = after_refusal (guard_refusal s x) s
     (with_slot_at (made_result (taken_out s x) (var s x)) c (Some (Cown (next_cown s))))
 
@@ -130,8 +131,8 @@ abbrev pub ask_open_children : State → ℕ → Option ℕ
 ask_open_children s x = open_children_answer s (var s x)
 
 -- owner(x)
-abbrev pub ask_owner : State → ℕ → Standing
-ask_owner s x = standing s (var s x)
+abbrev pub ask_owner : State → ℕ → Label
+ask_owner s x = label_of s (var s x)
 
 -- is_closed(x)
 abbrev pub ask_is_closed : State → ℕ → Option Bool

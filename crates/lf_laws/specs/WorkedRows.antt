@@ -15,7 +15,7 @@ use Rattle.lf_base.specs.Names.{key_of}
 use Rattle.lf_base.specs.Owners.{names}
 use Rattle.lf_base.specs.PlainChanges.{slot_at}
 use Rattle.lf_base.specs.PlainState.{State}
-use Rattle.lf_base.specs.Questions.{FrozenObject, LocalObject, RegionObject}
+use Rattle.lf_base.specs.declared.questions.Label.TheVariants as label
 use Rattle.lf_laws.specs.Scripts.{Close, Copy, Dissolve, Forget, Freeze, Guard, Merge, NewObject, NewRegion, Store, StoreZero, after_script}
 use Rattle.lf_laws.specs.Scripts.{after_statement, ask_borrowed, ask_is_closed, ask_open_children, ask_owner, ask_refs, guard_refusal}
 use Rattle.lf_laws.specs.Scripts.{script, set_refusal, text, var}
@@ -31,7 +31,7 @@ moved_graph = script (NewRegion 0 ∷ NewObject 1 ∷ NewObject 2 ∷ Store 1 5 
 
 -- with x its field's object moves to the region, and three slots borrow from it
 abbrev pub MovedGraphShows : Type 0
-MovedGraphShows = (ask_borrowed moved_graph 0 ≡ Some 3) × (ask_refs moved_graph 2 ≡ Some 2) × (ask_owner moved_graph 2 ≡ RegionObject)
+MovedGraphShows = (ask_borrowed moved_graph 0 ≡ Some 3) × (ask_refs moved_graph 2 ≡ Some 2) × (ask_owner moved_graph 2 ≡ label.Region)
 
 -- r = Region(); r.f = r
 abbrev pub self_edge : State
@@ -82,7 +82,7 @@ refused_unchanged = after_statement before_refused (Store 0 7 2)
 abbrev pub RefusedUnchangedShows : Type 0
 RefusedUnchangedShows =
     (set_refusal before_refused 0 7 2 ≡ Some SecondOwner)
-    × (ask_owner refused_unchanged 2 ≡ LocalObject)
+    × (ask_owner refused_unchanged 2 ≡ label.Local)
     × (ask_borrowed refused_unchanged 1 ≡ Some 3)
 
 -- r = Region(); x = {}; r.x = x; freeze(x)
@@ -91,7 +91,7 @@ freeze_inner = script (NewRegion 0 ∷ NewObject 1 ∷ Store 0 5 1 ∷ Freeze 1 
 
 -- only x is frozen, and only the variable r borrows
 abbrev pub FreezeInnerShows : Type 0
-FreezeInnerShows = (ask_owner freeze_inner 1 ≡ FrozenObject) × (ask_borrowed freeze_inner 0 ≡ Some 1)
+FreezeInnerShows = (ask_owner freeze_inner 1 ≡ label.Frozen) × (ask_borrowed freeze_inner 0 ≡ Some 1)
 
 -- r = Region(); a = {}; b = {}; a.o = b; b.o = a; a.r = r; drop a; drop b
 abbrev pub open_by_cycle : State
@@ -150,7 +150,7 @@ far_below = script (NewRegion 0 ∷ NewRegion 1 ∷ NewRegion 2 ∷ Store 0 5 1 
 -- a child may take its owner in; then merge(a, b) of a deeper region is refused
 abbrev pub MergesShow : Type 0
 MergesShow =
-    (ask_owner merged 0 ≡ RegionObject)
+    (ask_owner merged 0 ≡ label.Region)
     × (ask_refs merged 1 ≡ Some 2)
     × (ask_borrowed merged 1 ≡ Some 2)
     × (merge_refusal far_below (var far_below 2) (var far_below 0) ≡ Some Cycle)
@@ -162,8 +162,8 @@ freeze_region = script (NewRegion 0 ∷ NewRegion 1 ∷ NewObject 2 ∷ Store 1 
 -- with its bridge the whole region is frozen, also the row that no field names any more
 abbrev pub FreezeRegionShows : Type 0
 FreezeRegionShows =
-    (ask_owner freeze_region 2 ≡ FrozenObject)
-    × (ask_owner freeze_region 1 ≡ FrozenObject)
+    (ask_owner freeze_region 2 ≡ label.Frozen)
+    × (ask_owner freeze_region 1 ≡ label.Frozen)
     × (ask_open_children freeze_region 0 ≡ Some 0)
     × (ask_is_closed freeze_region 0 ≡ Some true)
 
@@ -173,7 +173,7 @@ dissolves = script (NewRegion 0 ∷ NewObject 1 ∷ Store 0 5 1 ∷ Dissolve 0 �
 
 -- bridge and inner row are local
 abbrev pub DissolvesShow : Type 0
-DissolvesShow = (ask_owner dissolves 0 ≡ LocalObject) × (ask_owner dissolves 1 ≡ LocalObject) × (ask_refs dissolves 1 ≡ Some 2)
+DissolvesShow = (ask_owner dissolves 0 ≡ label.Local) × (ask_owner dissolves 1 ≡ label.Local) × (ask_refs dissolves 1 ≡ Some 2)
 
 -- r = Region(); s = Region(); x = {}; s.x = x; r.s = s; drop s; drop r
 abbrev pub held_by_inner : State
@@ -182,7 +182,7 @@ held_by_inner = script (NewRegion 0 ∷ NewRegion 1 ∷ NewObject 2 ∷ Store 1 
 -- the variable x keeps the region s, and r is gone
 abbrev pub HeldByInnerShows : Type 0
 HeldByInnerShows =
-    (ask_owner held_by_inner 2 ≡ RegionObject)
+    (ask_owner held_by_inner 2 ≡ label.Region)
     × (ask_refs held_by_inner 2 ≡ Some 2)
     × (names held_by_inner.rows ≡ ob 2 ∷ ob 3 ∷ [])
 
@@ -193,8 +193,8 @@ freed_child = script (NewRegion 0 ∷ NewRegion 1 ∷ Store 0 5 1 ∷ Dissolve 0
 -- the child is free, and a field of the former bridge borrows from it
 abbrev pub FreedChildShows : Type 0
 FreedChildShows =
-    (ask_owner freed_child 0 ≡ LocalObject)
-    × (ask_owner freed_child 1 ≡ RegionObject)
+    (ask_owner freed_child 0 ≡ label.Local)
+    × (ask_owner freed_child 1 ≡ label.Region)
     × (ask_borrowed freed_child 1 ≡ Some 2)
     × (ask_refs freed_child 1 ≡ Some 2)
 

@@ -142,7 +142,7 @@ module _ (r : ObjId) (f : Region → Region) (name_stays : (region : Region) →
   written_names [] = refl
   written_names (x ∷ xs) = ap (λ n. n ∷ region_names (map written_at xs)) (at_name x) ∙ ap (λ l. x.name ∷ l) (written_names xs)
 
-  written_named : (regions : List Region) (q : ObjId) → region_named (map written_at regions) q ≡ option_map written_at (region_named regions q)
+  pub written_named : (regions : List Region) (q : ObjId) → region_named (map written_at regions) q ≡ option_map written_at (region_named regions q)
   written_named [] q = refl
   written_named (x ∷ xs) q =
       ap (λ n. cond (same_name n q) (Some (written_at x)) (region_named (map written_at xs) q)) (at_name x)

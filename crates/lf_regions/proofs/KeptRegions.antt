@@ -61,7 +61,7 @@ found_member (f ∷ fs) rise e (inr m) =
     ∙ found_member fs (order_tail name_below name_below_trans f.0 (keys_of fs) rise) e m
 
 -- whether an entry has another name
-abbrev is_other : ObjId → Entry → Bool
+abbrev pub is_other : ObjId → Entry → Bool
 is_other r e = not (same_name e.0 r)
 
 filter_all : (r : ObjId) (es : List Entry) → ((e : Entry) → Member e es → same_name e.0 r ≡ false) → filter (is_other r) es ≡ es
@@ -69,7 +69,7 @@ filter_all r [] h = refl
 filter_all r (e ∷ es) h = ap (λ b. cond (not b) (e ∷ filter (is_other r) es) (filter (is_other r) es)) (h e (inl refl)) ∙ ap (λ l. e ∷ l) (filter_all r es (λ f m. h f (inr m)))
 
 -- a removal takes the entries of that name
-removed : (entries : List Entry) (r : ObjId) → InOrder name_below (keys_of entries) → remove_entry (is_name r) entries ≡ filter (is_other r) entries
+pub removed : (entries : List Entry) (r : ObjId) → InOrder name_below (keys_of entries) → remove_entry (is_name r) entries ≡ filter (is_other r) entries
 removed [] r rise = refl
 removed (e ∷ es) r rise = go (is_name r e.0) (same_name e.0 r) (same_cmp r e.0) refl (removed es r (order_tail name_below name_below_trans e.0 (keys_of es) rise))
   where

@@ -1,4 +1,5 @@
 pub mod Regions
 pub mod RegionChanges
+pub mod TableCounts
 pub mod NextName
 pub mod KeptRegions

@@ -1,14 +1,14 @@
 //! What was proved of the changes of a list of regions. Each function has an empty
 //! body; its clauses are the law.
 
-ghost use Rattle.std.specs.Prelude.{◌≡◌, ◌||◌, ◌&&◌, ◌↔◌, Bool, List, None, Option, Some, false, filter, map, not, true, ℕ};
+ghost use Rattle.std.specs.Prelude.{◌≡◌, ◌||◌, ◌&&◌, ◌↔◌, Bool, List, None, Option, Some, false, filter, if◌then◌else◌, map, not, true, ℕ};
 ghost use Rattle.lf_base.specs.declared.ids.ObjId.{ObjId};
 ghost use Rattle.lf_base.specs.Names.{name_below, same_name};
 ghost use Rattle.lf_base.specs.Sets.{Member};
 ghost use Rattle.lf_regions.specs.declared.region.Region.{Region};
 ghost use Rattle.lf_regions.specs.NextName.{is_above, next_name};
 ghost use Rattle.lf_regions.specs.RegionChanges.{borrowed_at, new_region, owned_at, with_borrowed, with_owned, with_region, without_region};
-ghost use Rattle.lf_regions.specs.Regions.{InNameOrder, has_region, region_named, region_names};
+ghost use Rattle.lf_regions.specs.Regions.{InNameOrder, borrowed_of, has_region, owned_of, region_named, region_names};
 
 /// No change touches a region of another name.
 pub fn other_regions_stay()
@@ -43,6 +43,36 @@ pub fn names_after()
     ensures borrowed { (regions : List Region) (r : ObjId) (number : ℕ)
         → region_names (with_borrowed regions r number) ≡ region_names regions }
     ensures owned { (regions : List Region) (r : ObjId) (owned : Bool) → region_names (with_owned regions r owned) ≡ region_names regions }
+    ensures borrowed_has { (regions : List Region) (r q : ObjId) (number : ℕ)
+        → has_region (with_borrowed regions r number) q ≡ has_region regions q }
+    ensures owned_has { (regions : List Region) (r q : ObjId) (owned : Bool)
+        → has_region (with_owned regions r owned) q ≡ has_region regions q }
+{}
+
+/// What each change makes of the numbers of borrows. A new region has none, as a name
+/// without a region.
+pub fn borrowed_after()
+    ensures made { (regions : List Region) (r q : ObjId) → has_region regions r ≡ false
+        → borrowed_of (with_region regions r) q ≡ borrowed_of regions q }
+    ensures ended { (regions : List Region) (r q : ObjId)
+        → borrowed_of (without_region regions r) q ≡ (if same_name r q then 0 else borrowed_of regions q) }
+    ensures borrowed { (regions : List Region) (r q : ObjId) (number : ℕ) → has_region regions r ≡ true
+        → borrowed_of (with_borrowed regions r number) q ≡ (if same_name r q then number else borrowed_of regions q) }
+    ensures owned { (regions : List Region) (r q : ObjId) (owned : Bool)
+        → borrowed_of (with_owned regions r owned) q ≡ borrowed_of regions q }
+{}
+
+/// What each change makes of the flags. A new region isn't owned, as a name without a
+/// region.
+pub fn owned_after()
+    ensures made { (regions : List Region) (r q : ObjId) → has_region regions r ≡ false
+        → owned_of (with_region regions r) q ≡ owned_of regions q }
+    ensures ended { (regions : List Region) (r q : ObjId)
+        → owned_of (without_region regions r) q ≡ (if same_name r q then false else owned_of regions q) }
+    ensures borrowed { (regions : List Region) (r q : ObjId) (number : ℕ)
+        → owned_of (with_borrowed regions r number) q ≡ owned_of regions q }
+    ensures owned { (regions : List Region) (r q : ObjId) (owned : Bool) → has_region regions r ≡ true
+        → owned_of (with_owned regions r owned) q ≡ (if same_name r q then owned else owned_of regions q) }
 {}
 
 /// Each change keeps the order of the names.
@@ -56,13 +86,16 @@ pub fn order_stays()
 {}
 
 /// A name is in the list exactly where a region of it is found, and in a list by
-/// rising name each region is the one of its name.
+/// rising name each region is the one of its name. A name that isn't in the list has no
+/// borrow and no owner.
 pub fn regions_are_found()
     ensures found { (regions : List Region) (r : ObjId) (region : Region) → region_named regions r ≡ Some region
         → Member region regions × (region.name ≡ r) }
     ensures there { (regions : List Region) (r : ObjId) → (has_region regions r ≡ true) ↔ Member r (region_names regions) }
     ensures each { (regions : List Region) (region : Region) → InNameOrder regions → Member region regions
         → region_named regions region.name ≡ Some region }
+    ensures absent { (regions : List Region) (r : ObjId) → has_region regions r ≡ false
+        → (borrowed_of regions r ≡ 0) × (owned_of regions r ≡ false) }
 {}
 
 /// The next name is the least one above the given one, and there is none exactly

@@ -1,5 +1,8 @@
-ghost use Rattle.std.specs.Prelude.{◌≡◌, ◌+◌, ◌-◌, ◌<◌, ◌≤◌, ◌^◌, [], false, true, IfOk, OnErr, OnOk};
-ghost use Rattle.lf_regions.specs.KeptRegions.{start_above};
+ghost use Rattle.std.specs.Prelude.{◌≡◌, ◌+◌, ◌-◌, ◌<◌, ◌≤◌, ◌^◌, [], false, true, if◌then◌else◌, Some, IfOk, IsSome, OnErr, OnOk};
+ghost use Rattle.std.specs.HashMap.{spare};
+ghost use Rattle.lf_base.specs.declared.ids.ObjId.{ObjId};
+ghost use Rattle.lf_base.specs.Names.{same_name};
+ghost use Rattle.lf_regions.specs.KeptRegions.{slab_place_of, start_above};
 ghost use Rattle.lf_regions.specs.NextName.{next_name};
 ghost use Rattle.lf_regions.specs.RegionChanges.{with_borrowed, with_owned, with_region, without_region};
 ghost use Rattle.lf_regions.specs.Regions.{InNameOrder, borrowed_of, has_region, owned_of};
@@ -8,31 +11,67 @@ use crate::region::Region;
 use lf_base::{ObjId, OutOfMemory};
 use slab::Slab;
 use std::alloc::Global;
-use std::collections::BTreeMap;
+use std::collections::{BTreeMap, HashMap};
 use std::marker::Model;
 use std::ops::Bound;
 
 /// The regions of a domain by rising name, each with a number of borrows and a
 /// flag that says whether it has an owner. Contracts see the list of them.
 ///
-/// No call goes over the table: each takes the time of a search for a name.
+/// No call goes over the table. Those on a region that is there look its name up once;
+/// `make`, `end` and `next_above` search for a place in the order as well.
 #[derive(Drop)]
 pub struct RegionTable {
     regions: Slab<Region>,
-    // Where in the slab the region of a name lies.
+    // Where in the slab the region of a name lies: by one look-up, and in order.
+    places: HashMap<ObjId, usize>,
     index: BTreeMap<ObjId, usize>,
 }
 
 impl Model for RegionTable {
     ghost use Rattle.std.specs.Prelude.{List};
     ghost use Rattle.lf_regions.specs.declared.region.Region.{Region};
-    ghost use Rattle.lf_regions.specs.KeptRegions.{KeepsRegions, regions_at};
+    ghost use Rattle.lf_regions.specs.KeptRegions.{KeepsPlaces, regions_at};
 
     ghost Value = { List Region };
 
     ghost view = { λ table. regions_at table.regions table.index.entries };
 
-    ghost invariant = { λ table. KeepsRegions table.regions table.index.entries };
+    ghost invariant = { λ table. KeepsPlaces table.regions table.places table.index.entries };
+}
+
+// The place of a region that is there.
+#[inline(always)]
+fn place(places: &HashMap<ObjId, usize>, r: ObjId) -> usize
+    requires { IsSome (slab_place_of places.now r) }
+    ensures { slab_place_of places.now r ≡ Some result }
+{
+    let Some(&place) = places.get(&r) else {
+        unreachable!()
+    };
+    place
+}
+
+// Makes room for the place of one more region.
+fn reserve(places: &mut HashMap<ObjId, usize>) -> Result<(), OutOfMemory>
+    ensures places { (q : ObjId) → slab_place_of places.new q ≡ slab_place_of places.old q }
+    ensures enough { OnOk result (0 < spare places.new) }
+{
+    match places.reserve(1) {
+        Ok(()) => Ok(()),
+        Err(_error) => Err(OutOfMemory),
+    }
+}
+
+// Enters the place of a region.
+fn enter(places: &mut HashMap<ObjId, usize>, r: ObjId, place: usize)
+    requires { 0 < spare places.old }
+    ensures { (q : ObjId) → slab_place_of places.new q ≡ (if same_name r q then Some place else slab_place_of places.old q) }
+{
+    match places.insert(r, place) {
+        Ok(_old) => {}
+        Err(_refused) => unreachable!(),
+    }
 }
 
 impl RegionTable {
@@ -42,6 +81,7 @@ impl RegionTable {
     {
         Ok(RegionTable {
             regions: Slab::new(alloc),
+            places: HashMap::new(alloc),
             index: BTreeMap::new(alloc),
         })
     }
@@ -55,8 +95,10 @@ impl RegionTable {
         ensures rising { InNameOrder self.new }
     {
         self.regions.reserve(1)?;
+        reserve(&mut self.places)?;
         let key = self.regions.vacant_key();
         self.index.insert(r, key)?;
+        enter(&mut self.places, r, key);
         self.regions.insert_reserved(Region {
             name: r,
             borrowed: 0,
@@ -72,7 +114,7 @@ impl RegionTable {
         ensures added { self.new ≡ with_borrowed self.old r (borrowed_of self.old r + by) }
         ensures rising { InNameOrder self.new }
     {
-        let key = self.index[&r];
+        let key = place(&self.places, r);
         self.regions[key].borrowed += by;
     }
 
@@ -83,7 +125,7 @@ impl RegionTable {
         ensures subtracted { self.new ≡ with_borrowed self.old r (borrowed_of self.old r - by) }
         ensures rising { InNameOrder self.new }
     {
-        let key = self.index[&r];
+        let key = place(&self.places, r);
         self.regions[key].borrowed -= by;
     }
 
@@ -93,7 +135,7 @@ impl RegionTable {
         ensures set { self.new ≡ with_owned self.old r owned }
         ensures rising { InNameOrder self.new }
     {
-        let key = self.index[&r];
+        let key = place(&self.places, r);
         self.regions[key].owned = owned;
     }
 
@@ -105,6 +147,7 @@ impl RegionTable {
         ensures ended { self.new ≡ without_region self.old r }
         ensures rising { InNameOrder self.new }
     {
+        let _ = self.places.remove(&r);
         if let Some(key) = self.index.remove(&r) {
             self.regions.remove(key);
         }
@@ -116,7 +159,7 @@ impl RegionTable {
         ensures number { result ≡ borrowed_of self.now r }
         ensures rising { InNameOrder self.now }
     {
-        self.regions[self.index[&r]].borrowed
+        self.regions[place(&self.places, r)].borrowed
     }
 
     /// The flag of a region that is there.
@@ -125,7 +168,7 @@ impl RegionTable {
         ensures flag { result ≡ owned_of self.now r }
         ensures rising { InNameOrder self.now }
     {
-        self.regions[self.index[&r]].owned
+        self.regions[place(&self.places, r)].owned
     }
 
     /// The least name, or the least one above `after` where one is given, and None

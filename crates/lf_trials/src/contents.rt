@@ -1,7 +1,7 @@
 //! What stands in a store, as a table of cases has it.
 
 use crate::calls::row;
-use crate::trials::{field_of, next_of, refs_of, width_of};
+use crate::trials::{field_of, next_field_of, next_of, refs_of, width_of};
 use lf_base::{Key, Owner, Steps, Value};
 use lf_graph::Store;
 use std::sync::ledger::Ledger;
@@ -29,7 +29,11 @@ pub fn has_rows<S: Store, L: Ledger>(
     at.is_none()
 }
 
-// Whether a row has that count and these fields, in this order.
+// A key that no case sets.
+const UNUSED: Key = Key::Int(-1);
+
+// Whether a row has that count and these fields, in this order, by their places and by
+// a walk from each to the one after it.
 fn has_fields<S: Store, L: Ledger>(
     store: &S,
     seq: u32,
@@ -41,13 +45,21 @@ fn has_fields<S: Store, L: Ledger>(
         return false;
     }
     let mut at = 0_u32;
+    let mut last = None;
     for (key, n) in expected {
-        if field_of(store, row(seq), at, steps) != Some((*key, Value::Int(*n))) {
+        let field = Some((*key, Value::Int(*n)));
+        if field_of(store, row(seq), at, steps) != field {
+            return false;
+        }
+        if next_field_of(store, row(seq), last, steps) != field {
             return false;
         }
         at = at.saturating_add(1);
+        last = Some(*key);
     }
-    width_of(store, row(seq), steps) == Some(at)
+    next_field_of(store, row(seq), last, steps).is_none()
+        && next_field_of(store, row(seq), Some(UNUSED), steps).is_none()
+        && width_of(store, row(seq), steps) == Some(at)
 }
 
 /// Whether a store has these rows and fields.

@@ -141,6 +141,20 @@ pub fn field_of<S: Store, L: Ledger>(
     store.field_at(o, at, steps)
 }
 
+/// The field after that of a key of a row, or the row's first one, where there is such
+/// a row.
+pub fn next_field_of<S: Store, L: Ledger>(
+    store: &S,
+    o: ObjId,
+    after: Option<Key>,
+    steps: &mut Steps<L>,
+) -> Option<(Key, Value)> {
+    if !is_there(store, o, steps) {
+        return None;
+    }
+    store.field_after(o, after, steps)
+}
+
 /// Moves the rows of a region into a new store. `OutOfMemory` comes where `new`,
 /// `part_out` or `part_in` has it; after the last the region's rows are lost.
 pub fn move_region<S: Store>(alloc: Global, store: &mut S, region: ObjId) -> Result<S, OutOfMemory>

@@ -5,7 +5,7 @@ use Rattle.std.specs.List.{list_any}
 use Rattle.std.proofs.lemmas.Bool.{or_from, or_parts}
 use Rattle.std.proofs.lemmas.List.Folds.{list_any-append}
 use Rattle.lf_base.specs.Sets.{Member, shrink, Differ, InOrder}
-use Rattle.lf_base.proofs.ListLemmas.Members.{Within, any_more}
+use Rattle.lf_base.proofs.ListLemmas.Members.{Member_left, Within, any_more}
 use Rattle.std.proofs.lemmas.List.Sums.{sum_by-cons}
 use Rattle.std.proofs.lemmas.Bool.{both_ways, false_from_ne_true}
 
@@ -93,6 +93,15 @@ differ_push same [] y d e = (refl, tt)
 differ_push same (x ∷ xs) y d e =
     let p = or_parts (same y x) (list_any (same y) xs) e in
     (list_any-append (λ z. same z x) xs (y ∷ []) ∙ or_from _ _ d.0 (or_from _ _ p.0 refl), differ_push same xs y d.1 p.1)
+
+-- two lists that differ together differ each by itself
+pub differ_left : {X : Type 0} (same : X → X → Bool) (xs ys : List X) → Differ same (xs ++ ys) → Differ same xs
+differ_left same [] ys d = tt
+differ_left same (x ∷ xs) ys d = (false_from_ne_true _ (λ q. both_ways _ d.0 (any_more (λ y. same y x) xs (xs ++ ys) (λ z m. Member_left z xs ys m) q)), differ_left same xs ys d.1)
+
+pub differ_right : {X : Type 0} (same : X → X → Bool) (xs ys : List X) → Differ same (xs ++ ys) → Differ same ys
+differ_right same [] ys d = d
+differ_right same (x ∷ xs) ys d = differ_right same xs ys d.1
 
 -- ---- counts
 bit_le : (a b : Bool) → (a ≡ true → b ≡ true) → cond a 1 0 ≤ cond b 1 0

@@ -65,3 +65,12 @@ pub or_nor : (a b : Bool) → (a || b) ≡ true → (not a && not b) ≡ false
 or_nor true b e = refl
 or_nor false true e = refl
 or_nor false false e = cc
+
+-- tests that agree on all members count the same
+pub count_like : {X : Type 0} (p q : X → Bool) (xs : List X) → ((x : X) → Member x xs → p x ≡ q x) → count_by p xs ≡ count_by q xs
+count_like p q [] h = refl
+count_like p q (x ∷ xs) h = omega (arith, sum_by-cons (λ y. cond (p y) 1 0) x xs, sum_by-cons (λ y. cond (q y) 1 0) x xs, ap {B = ℕ} (λ b. cond b 1 0) (h x (inl refl)), count_like p q xs (λ y m. h y (inr m)))
+
+pub or_first : (a b : Bool) → (a || b) ≡ true → b ≡ false → a ≡ true
+or_first true b e f = refl
+or_first false b e f = absurd (both_ways b f e)

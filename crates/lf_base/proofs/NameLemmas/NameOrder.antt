@@ -56,6 +56,9 @@ below_asym a b p = asym_at a.birth b.birth a.seq b.seq p
 pub not_below_itself : (a : ObjId) → name_below a a ≡ false
 not_below_itself a = false_from_ne_true _ (λ e. both_ways _ (below_asym a a e) e)
 
+pub not_below : (a : ObjId) → name_below a a ≡ true → ⊥
+not_below a e = both_ways _ (not_below_itself a) e
+
 -- names in order differ
 pub order_differ : (os : List ObjId) → InOrder name_below os → Differ same_name os
 order_differ [] o = tt

@@ -1,11 +1,13 @@
 -- The keys of a row with their values, after a field is set, comes or goes.
 use Rattle.std.proofs.Common.{List, None, Option, Some, [], ap, cond, false, is_some, length, not, refl, subst, sym, true, ◌||◌, ◌++◌, ◌∙◌, ◌∷◌, ◌≡◌, arith}
 use Rattle.std.specs.Option.{IsSome, option_map}
+use Rattle.std.proofs.Math.Bool.{or-true}
 use Rattle.std.proofs.lemmas.List.{length-map}
 use Rattle.lf_base.specs.declared.ids.ObjId.{ObjId}
 use Rattle.lf_base.specs.declared.values.Key.{Key}
 use Rattle.lf_base.specs.declared.values.Value.{Value}
-use Rattle.lf_base.specs.Links.{Lacks, NodesDiffer, has, without}
+use Rattle.lf_base.specs.FieldOrder.{field_after, field_past}
+use Rattle.lf_base.specs.Links.{Lacks, NodesDiffer, after, has, head_or, without}
 use Rattle.lf_base.specs.Names.{same_key}
 use Rattle.lf_base.specs.TakeResult.{drop_field, field_at}
 use Rattle.lf_base.specs.WriteResult.{put_field}
@@ -13,7 +15,7 @@ use Rattle.lf_base.proofs.ListLemmas.LinkedLists.{IsList-walk, Lacks-from_has, f
 use Rattle.lf_base.proofs.NameLemmas.SameNames.{same_key_is, same_key_itself}
 use Rattle.lf_graph.specs.declared.cells.Cell.{Cell}
 use Rattle.lf_graph.specs.declared.cells.FieldEnds.{FieldEnds}
-use Rattle.lf_graph.specs.Cells.{CellsAt, IsFieldList, OnlyValueAt, cell_value, found_value, has_cell, link_of, paired, pairs, walked_keys}
+use Rattle.lf_graph.specs.Cells.{CellsAt, IsFieldList, OnlyValueAt, cell_value, found_value, has_cell, link_of, pair_of, paired, pairs, walked_keys}
 use Rattle.lf_graph.proofs.FieldTable.CellMaps.{Decides-same_key}
 
 -- a walk from the first key gives a row's keys
@@ -106,3 +108,37 @@ module _ (m n : CellsAt) (o : ObjId) (key : Key) where
 
   pub fields_without : (ends : FieldEnds) (keys : List Key) → OnlyValueAt m n o key None → IsFieldList m o ends keys → pairs n o (without same_key key keys) ≡ drop_field (pairs m o keys) key
   fields_without ends keys step old = pairs_without step keys old.list.differ
+
+-- ---- the first pair, and the one after a key
+
+-- each key of the list has a cell
+abbrev AllThere : CellsAt → ObjId → List Key → Type 0
+AllThere m o keys = (k : Key) → has same_key k keys ≡ true → is_some (m o k) ≡ true
+
+rest_there : (m : CellsAt) (o : ObjId) (x : Key) (xs : List Key) → AllThere m o (x ∷ xs) → AllThere m o xs
+rest_there m o x xs all k h = all k (ap (λ b. same_key k x || b) h ∙ or-true (same_key k x))
+
+first_pair : (m : CellsAt) (o : ObjId) (keys : List Key) → AllThere m o keys → pair_of m o (head_or keys None) ≡ head_or (pairs m o keys) None
+first_pair m o [] all = refl
+first_pair m o (x ∷ xs) all = of_cell (m o x) (all x (ap (λ b. b || has same_key x xs) (same_key_itself x))) where
+  of_cell : (c : Option Cell) → is_some c ≡ true → option_map {U = Key × Value} (λ (y : Cell). (x, y.value)) c ≡ Some (x, found_value (option_map (λ (y : Cell). y.value) c))
+  of_cell None h = cc
+  of_cell (Some c) h = refl
+
+pair_past : (m : CellsAt) (o : ObjId) (k : Key) (keys : List Key) → AllThere m o keys → pair_of m o (after same_key k keys) ≡ field_past (pairs m o keys) k
+pair_past m o k [] all = refl
+pair_past m o k (x ∷ xs) all = elim (same_key k x) as (λ b. pair_of m o (cond b (head_or xs None) (after same_key k xs)) ≡ cond b (head_or (pairs m o xs) None) (field_past (pairs m o xs) k)) [
+  | true ↦ first_pair m o xs (rest_there m o x xs all)
+  | false ↦ pair_past m o k xs (rest_there m o x xs all)
+]
+
+-- what is found of the first key, and of the one after a key
+module _ (m : CellsAt) (o : ObjId) (ends : FieldEnds) (keys : List Key) (list : IsFieldList m o ends keys) where
+  all_there : AllThere m o keys
+  all_there k h = sym (list.list.members k) ∙ h
+
+  pub first_field_found : pair_of m o ends.first ≡ field_after (pairs m o keys) None
+  first_field_found = ap (pair_of m o) list.list.first ∙ first_pair m o keys all_there
+
+  pub field_after_found : (k : Key) → pair_of m o (after same_key k keys) ≡ field_after (pairs m o keys) (Some k)
+  field_after_found k = pair_past m o k keys all_there

@@ -1,6 +1,6 @@
 -- What is found in the rows of a flat store, from its tables.
-use Rattle.std.proofs.Common.{None, Option, Some, ap, cond, is_some, length, option_map, refl, subst, sym, true, ◌∙◌, ◌≡◌, ◌≤◌}
-use Rattle.std.specs.Option.{IsSome}
+use Rattle.std.proofs.Common.{None, Option, Some, ap, cond, is_some, length, option_map, refl, subst, sym, true, ℕ, ◌∙◌, ◌≡◌, ◌≤◌}
+use Rattle.std.specs.Option.{IfSome, IsSome}
 use Rattle.lf_base.specs.declared.ids.ObjId.{ObjId}
 use Rattle.lf_base.specs.declared.values.Key.{Key}
 use Rattle.lf_base.specs.declared.values.Owner.{Owner}
@@ -70,9 +70,6 @@ module _ {t : Chains} {cells : Cells} {v : StoreView} (s : SeenAs t cells v) whe
   pub has_owner : (o : ObjId) → HasRow v.rows o → Owned o
   has_owner o h = let r = there o h in record { owner = r.row.owner; owner_is = ap (option_map (λ (x : StoredRow). x.owner)) r.kept_is }
 
-  pub row_not_lost : (o : ObjId) → HasRow v.rows o → kept o ≡ None → ⊥
-  row_not_lost o h n = let some : IsSome {T = StoredRow} None = subst IsSome n (row_is_there o h) in cc
-
   pub is_new : (o : ObjId) → row_named v.rows o ≡ None → kept o ≡ None
   is_new o h = go (kept o) (sym (found o) ∙ h) where
     go : (r : Option StoredRow) → option_map (whole_row (cells_of cells) o) r ≡ None → r ≡ None
@@ -114,6 +111,17 @@ module _ {t : Chains} {cells : Cells} {v : StoreView} (s : SeenAs t cells v) whe
 
     pub refs_found : refs_at v.rows o ≡ r.refs
     refs_found = ap refs_by row_here
+
+  -- what holds of its count holds of the one that is kept
+  pub count_kept_is : (P : ℕ → Type 0) (o : ObjId) → HasRow v.rows o → P (refs_at v.rows o) → IfSome (kept o) (λ (r : StoredRow). P r.refs)
+  count_kept_is P o h p = let r = there o h in subst (λ t. IfSome t (λ (x : StoredRow). P x.refs)) (sym r.kept_is) (subst P (refs_found o r.row r.kept_is) p)
+
+  -- a row that is kept is there
+  pub kept_has_row : (o : ObjId) → IsSome (kept o) → HasRow v.rows o
+  kept_has_row o some = ap is_some (found o) ∙ go (kept o) some where
+    go : (r : Option StoredRow) → IsSome r → is_some (option_map (whole_row (cells_of cells) o) r) ≡ true
+    go None e = cc
+    go (Some r) e = refl
 
   -- a field that the row hasn't
   pub no_value : (o : ObjId) → HasRow v.rows o → (k : Key) → cells_of cells o k ≡ None → field_value_at v.rows o k ≡ None

@@ -18,7 +18,7 @@ use Rattle.lf_graph.specs.declared.ends.Ends.{Ends}
 use Rattle.lf_graph.specs.declared.stored_row.StoredRow.{StoredRow}
 use Rattle.lf_graph.specs.Cells.{CellsAt, IsFieldList, OnlyValueAt, OthersStay, cell_value, cells_of, pairs, walked_keys}
 use Rattle.lf_graph.specs.ChainMaps.{HasLists, ends_of, heads_of}
-use Rattle.lf_graph.specs.Chains.{HeadsAt, IsChain, OnlyStoredAt, is_this_owner, left_without, linked_row_at, pushed}
+use Rattle.lf_graph.specs.Chains.{ChangesStoredAt, HeadsAt, IsChain, OnlyStoredAt, is_this_owner, left_without, linked_row_at, list_pushed, reown}
 use Rattle.lf_graph.specs.FlatRows.{IsFlat, KeepsFields, StoreView, chain_of, flat_rows, region_rows, whole_row, whole_row_at, whole_row_by}
 use Rattle.lf_graph.specs.RowChanges.{changed, moved_last, moved_under, with_fields, with_refs, without_row}
 use Rattle.lf_graph.specs.StoredRows.{CountedRow, SameByOwner}
@@ -120,12 +120,12 @@ module _ {t : Chains} (u : Chains) {cells : Cells} (now : Cells) {v : StoreView}
         ] refl
 
   -- a new row comes last
-  module _ (s : StoredRow) (absent : linked_row_at (heads_of t.rows) o ≡ None) (touched : Touched t u cells now o (Some s) (pushed (chain_of t) s.owner o)) where
+  module _ (s : StoredRow) (absent : linked_row_at (heads_of t.rows) o ≡ None) (touched : Touched t u cells now o (Some s) (list_pushed (chain_of t) s.owner o)) where
     pub flat_pushed : IsFlat u now
     flat_pushed = flat_after before.flat touched
 
     pub rows_pushed : SameByOwner (flat_rows u now) (v.rows ++ whole_row (cells_of now) o s ∷ [])
-    rows_pushed = listed_same (flat_rows u now) (v.rows ++ whole_row (cells_of now) o s ∷ []) (pushed (chain_of t) s.owner o) (whole_row_at (heads_of u.rows) (cells_of now))
+    rows_pushed = listed_same (flat_rows u now) (v.rows ++ whole_row (cells_of now) o s ∷ []) (list_pushed (chain_of t) s.owner o) (whole_row_at (heads_of u.rows) (cells_of now))
         (listed_after before.flat touched)
         (listed_pushed v.rows (chain_of t) (whole_row_at (heads_of t.rows) (cells_of cells)) (whole_row_at (heads_of u.rows) (cells_of now)) o (rows_listed before) (row_names t cells)
         (there_after before.flat touched) s.owner (whole_row (cells_of now) o s) refl
@@ -146,9 +146,9 @@ module _ {t : Chains} (u : Chains) {cells : Cells} (now : Cells) {v : StoreView}
         (there_after before.flat touched))
 
 -- ---- by calls
--- a row is stored under its own name
-pub stored_named : (m n : HeadsAt) (a o : ObjId) (s : Option StoredRow) → a ≡ o → OnlyStoredAt m n a s → OnlyStoredAt m n o s
-stored_named m n a o s e h = subst (λ x. OnlyStoredAt m n x s) e h
+-- a row that is there is changed
+pub stored_changed : (m n : HeadsAt) (o : ObjId) (r : StoredRow) (f : StoredRow → StoredRow) → linked_row_at m o ≡ Some r → ChangesStoredAt m n o f → OnlyStoredAt m n o (Some (f r))
+stored_changed m n o r f kept step q = step q ∙ ap (λ t. cond (same_name o q) (option_map f t) (linked_row_at m q)) kept
 
 -- what is kept of one row, where nothing of it changes
 pub stored_same : (heads : HeadsAt) (o : ObjId) (r : StoredRow) → linked_row_at heads o ≡ Some r → OnlyStoredAt heads heads o (Some r)
@@ -210,23 +210,16 @@ module _ {t : Chains} (u : Chains) {cells : Cells} {v : StoreView} (before : See
         (λ c. with_refs (f c.refs) c) (λ c. refl) (ap (λ m. with_refs m (whole_row (cells_of cells) o r)) is_f)
 
   -- a row comes last under another owner
-  module _ (w : Owner) (middle : HeadsAt) (chains : HasLists u (pushed (left_without (chain_of t) o) w o))
-      (gone : OnlyStoredAt (heads_of t.rows) middle o None) (back : OnlyStoredAt middle (heads_of u.rows) o (Some (record r { owner = w }))) where
-    stored_moved : OnlyStoredAt (heads_of t.rows) (heads_of u.rows) o (Some (record r { owner = w }))
-    stored_moved q = back q ∙ (elim (same_name o q) as (λ b. same_name o q ≡ b → cond b (Some (record r { owner = w })) (linked_row_at middle q) ≡ cond b (Some (record r { owner = w })) (linked_row_at (heads_of t.rows) q)) [
-      | true ↦ λ _. refl
-      | false ↦ λ n. gone q ∙ ap (λ b. cond b None (linked_row_at (heads_of t.rows) q)) n
-    ] refl)
-
-    moved : Touched t u cells cells o (Some (record r { owner = w })) (pushed (left_without (chain_of t) o) w o)
-    moved = record { lists_are = chains; stored = stored_moved; others = λ q k _. refl; here = subst (KeepsFields (cells_of cells) o) kept (before.flat.fields o) }
+  module _ (w : Owner) (chains : HasLists u (list_pushed (left_without (chain_of t) o) w o)) (stored : ChangesStoredAt (heads_of t.rows) (heads_of u.rows) o (reown w)) where
+    moved : Touched t u cells cells o (Some (record r { owner = w })) (list_pushed (left_without (chain_of t) o) w o)
+    moved = record { lists_are = chains; stored = stored_changed (heads_of t.rows) (heads_of u.rows) o r (reown w) kept stored; others = λ q k _. refl; here = subst (KeepsFields (cells_of cells) o) kept (before.flat.fields o) }
 
     pub flat_moved : IsFlat u cells
     flat_moved = flat_after before.flat moved
 
     pub rows_moved : SameByOwner (flat_rows u cells) (moved_last v.rows o w)
     rows_moved = subst (λ x. SameByOwner (flat_rows u cells) (without_row v.rows o ++ moved_under w x)) (sym (found before o ∙ ap (option_map (whole_row (cells_of cells) o)) kept))
-        (listed_same (flat_rows u cells) (without_row v.rows o ++ whole_row (cells_of cells) o (record r { owner = w }) ∷ []) (pushed (left_without (chain_of t) o) w o) now_row
+        (listed_same (flat_rows u cells) (without_row v.rows o ++ whole_row (cells_of cells) o (record r { owner = w }) ∷ []) (list_pushed (left_without (chain_of t) o) w o) now_row
         (listed_after before.flat moved)
         (listed_pushed (without_row v.rows o) (left_without (chain_of t) o) now_row now_row o
         (listed_without v.rows (chain_of t) (whole_row_at (heads_of t.rows) (cells_of cells)) now_row o (rows_listed before) (row_names t cells) agree)

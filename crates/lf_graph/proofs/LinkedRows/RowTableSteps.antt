@@ -1,13 +1,15 @@
 -- The table of rows by name: what is found after one slot of the slab, and the index at one name, have changed.
-use Rattle.std.proofs.Common.{◌≡◌, ◌≢◌, ℕ, true, false, is_some, cond, Option, Some, None, slice_index_or, unwrap_or, refl, ap, sym, ◌∙◌}
-use Rattle.std.specs.Option.{IfSome, IsSome, OnSome}
+use Rattle.std.proofs.Common.{◌≡◌, ◌≢◌, ℕ, true, false, is_some, cond, Option, Some, None, slice_index_or, subst, unwrap_or, refl, ap, sym, ◌∙◌}
+use Rattle.std.specs.Option.{IfSome, IsSome, OnSome, option_map}
 use Rattle.std.specs.HashMap.{HashMap}
-use Rattle.slab.specs.Slab.{Slab, Updates, get, with_value}
+use Rattle.slab.specs.Slab.{Slab, Updates, get, slab_len, with_value}
 use Rattle.slab.proofs.SlabLemmas.{Updates-with_value}
 use Rattle.lf_base.specs.declared.ids.ObjId.{ObjId}
 use Rattle.lf_base.specs.Names.{same_name}
+use Rattle.lf_base.proofs.ListLemmas.SlotCounts.{count_kept}
 use Rattle.lf_base.proofs.NameLemmas.SameNames.{same_name_is, same_name_itself}
 use Rattle.lf_graph.specs.declared.stored_row.Linked.{Linked}
+use Rattle.lf_graph.specs.Chains.{ChangesRowAt}
 use Rattle.lf_graph.specs.RowTables.{NamesLeadToRows, head_by, heads_in, is_head_of, slab_key_of}
 
 both_names : (t : Option Linked) (o q : ObjId) → is_head_of o t ≡ true → is_head_of q t ≡ true → same_name o q ≡ true
@@ -103,3 +105,19 @@ module _ {S : Type 0} (rows : Slab Linked) (index : HashMap ObjId ℕ S) (leads 
   pub names_lead_set : (head.row).name ≡ o → NamesLeadToRows (with_value rows key head) index
   names_lead_set named = names_lead_after rows (with_value rows key head) index index leads o key (Some head) (Some key) written (found_entry rows index leads o key found) (keys_apart rows index leads o key found)
       (λ k e. ap (λ u. is_head_of o (get (with_value rows key head) (unwrap_or u k))) (sym e) ∙ ap (is_head_of o) written.changed ∙ ap (λ n. same_name n o) named ∙ same_name_itself o)
+
+-- a row is changed in its place, and keeps its name
+module _ {S : Type 0} (rows : Slab Linked) (index : HashMap ObjId ℕ S) (leads : NamesLeadToRows rows index) (o : ObjId) (key : ℕ) (found : slab_key_of index o ≡ Some key)
+    (old : Linked) (at : Some old ≡ get rows key) (f : Linked → Linked) where
+  pub changed_heads : ChangesRowAt (heads_in rows index) (heads_in (with_value rows key (f old)) index) o f
+  changed_heads q = set_heads rows index leads o key found (f old) q
+      ∙ ap (λ t. cond (same_name o q) t (heads_in rows index q)) (ap (option_map f) (at ∙ sym (ap (head_by rows) found)))
+
+  old_named : (old.row).name ≡ o
+  old_named = subst (λ t. IfSome t (λ head. (head.row).name ≡ o)) (sym at) (name_found o (get rows key) (leads o key found))
+
+  pub names_lead_changed : ((f old).row).name ≡ (old.row).name → NamesLeadToRows (with_value rows key (f old)) index
+  names_lead_changed named = names_lead_set rows index leads o key found (f old) (named ∙ old_named)
+
+  pub count_changed : slab_len (with_value rows key (f old)) ≡ slab_len rows
+  count_changed = count_kept rows.slots key (f old) (head_is_there o (get rows key) (leads o key found))

@@ -8,7 +8,7 @@ use Rattle.lf_base.specs.declared.values.Owner.{Owner}
 use Rattle.lf_base.specs.Links.{after, has, head_or, without}
 use Rattle.lf_base.specs.Names.{same_name, same_owner}
 use Rattle.lf_base.proofs.NameLemmas.SameNames.{same_name_flips, same_name_is}
-use Rattle.lf_graph.specs.Chains.{is_this_owner, left_without, pushed}
+use Rattle.lf_graph.specs.Chains.{is_this_owner, left_without, list_pushed}
 use Rattle.lf_graph.specs.RowChanges.{changed, without_row}
 use Rattle.lf_graph.specs.StoredRows.{CountedRow, SameByOwner, first_name, is_named, is_under, name_after, row_named, rows_of}
 use Rattle.lf_graph.proofs.Stores.Changes.{KeepsOwner, at_keeps_owner, rows_of_map}
@@ -58,7 +58,7 @@ module _ (rows : List CountedRow) (lists : Owner → List ObjId) (g h : ObjId �
     listed_without w = filter_turns (is_under w) (λ c. not (is_named o c)) rows ∙ ap (filter (λ c. not (is_named o c))) (shown w) ∙ each_without (lists w)
 
     -- a row comes last under its owner
-    pub listed_pushed : (v : Owner) (c : CountedRow) → (c.row).owner ≡ v → h o ≡ c → ((w : Owner) → has same_name o (lists w) ≡ false) → RowsAreListed (rows ++ c ∷ []) (pushed lists v o) h
+    pub listed_pushed : (v : Owner) (c : CountedRow) → (c.row).owner ≡ v → h o ≡ c → ((w : Owner) → has same_name o (lists w) ≡ false) → RowsAreListed (rows ++ c ∷ []) (list_pushed lists v o) h
     listed_pushed v c owned here absent w =
         rows_append w rows (c ∷ []) ∙ ap (λ l. l ++ cond (same_owner (c.row).owner w) (c ∷ []) []) (shown w)
         ∙ ap (λ u. map g (lists w) ++ cond (same_owner u w) (c ∷ []) []) owned

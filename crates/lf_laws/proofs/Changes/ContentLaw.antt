@@ -1,6 +1,5 @@
 -- The writes of a held cown's content and the making of a cown.
-use Rattle.std.proofs.Common.{Bool, List, None, [], ap, arith, cond, eqb, false, inl, inr, map, refl, subst, sym, true, ℕ, ◌++◌, ◌+◌, ◌||◌, ◌∙◌, ◌∷◌, ◌≡◌, ◌≤◌, ◌⊎◌}
-use Rattle.std.proofs.lemmas.Bool.Decides.{Decides-eqb}
+use Rattle.std.proofs.Common.{Bool, List, None, [], ap, arith, cond, false, inl, inr, map, refl, subst, sym, true, ℕ, ◌++◌, ◌+◌, ◌||◌, ◌∙◌, ◌∷◌, ◌≡◌, ◌≤◌, ◌⊎◌}
 use Rattle.std.proofs.lemmas.List.Sums.{sum_by-append}
 use Rattle.std.specs.List.{count_by, flat_map}
 use Rattle.lf_base.specs.declared.ids.CownId.{CownId}
@@ -13,19 +12,17 @@ use Rattle.lf_base.specs.PlainState.{State}
 use Rattle.lf_base.specs.Sets.{Differ, Member}
 use Rattle.lf_base.specs.WellFormed.{IsNumber, SlotMayHold, WellFormed, all_values, content_values, own_cowns}
 use Rattle.lf_laws.proofs.Changes.ContentChange.{PutsContent, content_keeps, content_quiet}
-use Rattle.std.proofs.lemmas.Bool.{and_parts, both_ways, false_from_ne_true}
+use Rattle.std.proofs.lemmas.Bool.{both_ways, false_from_ne_true}
+use Rattle.lf_base.proofs.NameLemmas.SameNames.{same_cown_is}
 use Rattle.lf_base.proofs.ListLemmas.Members.{Member_any, any_Member, Member_left, Member_of_append, Member_right}
 
 -- ---- a held cown
-cown_is : (a b : CownId) → same_cown a b ≡ true → a ≡ b
-cown_is a b e = let p = and_parts (eqb a.birth b.birth) (eqb a.seq b.seq) e in λ i. record { birth = (Decides-eqb a.birth b.birth).0 p.0 i; seq = (Decides-eqb a.seq b.seq).0 p.1 i }
-
-put_old_or_new : (hs : List (CownId × Value)) (c : CownId) (v : Value) (e : Edge) → Member e (content_edges (put_content hs c v)) → Member e (content_edges hs) ⊎ Member e (edges_by (Content c) (targets_of_value v))
+pub put_old_or_new : (hs : List (CownId × Value)) (c : CownId) (v : Value) (e : Edge) → Member e (content_edges (put_content hs c v)) → Member e (content_edges hs) ⊎ Member e (edges_by (Content c) (targets_of_value v))
 put_old_or_new [] c v e m = absurd m
 put_old_or_new (h ∷ hs) c v e m =
     elim (same_cown h.0 c) as (λ b. same_cown h.0 c ≡ b → Member e (content_edges (cond b ((h.0, v) ∷ hs) (h ∷ put_content hs c v))) → Member e (content_edges (h ∷ hs)) ⊎ Member e (edges_by (Content c) (targets_of_value v))) [
       | true ↦ λ k n. elim (Member_of_append e (edges_by (Content h.0) (targets_of_value v)) (content_edges hs) n) [
-        | inl q ↦ inr (subst (λ d. Member e (edges_by (Content d) (targets_of_value v))) (cown_is h.0 c k) q)
+        | inl q ↦ inr (subst (λ d. Member e (edges_by (Content d) (targets_of_value v))) (same_cown_is h.0 c k) q)
         | inr q ↦ inl (Member_right e (edges_by (Content h.0) (targets_of_value h.1)) (content_edges hs) q)
       ]
       | false ↦ λ k n. elim (Member_of_append e (edges_by (Content h.0) (targets_of_value h.1)) (content_edges (put_content hs c v)) n) [
@@ -39,7 +36,7 @@ put_count p [] c v = omega arith
 put_count p (h ∷ hs) c v =
     let f : Edge → ℕ = λ e. cond (p e) 1 0 in
     elim (same_cown h.0 c) as (λ b. same_cown h.0 c ≡ b → count_by p (content_edges (cond b ((h.0, v) ∷ hs) (h ∷ put_content hs c v))) ≤ count_by p (content_edges (h ∷ hs)) + count_by p (edges_by (Content c) (targets_of_value v))) [
-      | true ↦ λ k. omega (arith, ap (λ d. count_by p (edges_by (Content d) (targets_of_value v))) (cown_is h.0 c k), sum_by-append f (edges_by (Content h.0) (targets_of_value v)) (content_edges hs), sum_by-append f (edges_by (Content h.0) (targets_of_value h.1)) (content_edges hs))
+      | true ↦ λ k. omega (arith, ap (λ d. count_by p (edges_by (Content d) (targets_of_value v))) (same_cown_is h.0 c k), sum_by-append f (edges_by (Content h.0) (targets_of_value v)) (content_edges hs), sum_by-append f (edges_by (Content h.0) (targets_of_value h.1)) (content_edges hs))
       | false ↦ λ k. omega (arith, put_count p hs c v, sum_by-append f (edges_by (Content h.0) (targets_of_value h.1)) (content_edges (put_content hs c v)), sum_by-append f (edges_by (Content h.0) (targets_of_value h.1)) (content_edges hs))
     ] refl
 
@@ -47,7 +44,7 @@ put_there : (hs : List (CownId × Value)) (c : CownId) (v : Value) → has_cown 
 put_there [] c v h e m = cc
 put_there (x ∷ hs) c v h e m =
     elim (same_cown x.0 c) as (λ b. same_cown x.0 c ≡ b → (b || has_cown hs c) ≡ true → Member e (content_edges (cond b ((x.0, v) ∷ hs) (x ∷ put_content hs c v)))) [
-      | true ↦ λ k z. Member_left e (edges_by (Content x.0) (targets_of_value v)) (content_edges hs) (subst (λ d. Member e (edges_by (Content d) (targets_of_value v))) (sym (cown_is x.0 c k)) m)
+      | true ↦ λ k z. Member_left e (edges_by (Content x.0) (targets_of_value v)) (content_edges hs) (subst (λ d. Member e (edges_by (Content d) (targets_of_value v))) (sym (same_cown_is x.0 c k)) m)
       | false ↦ λ k z. Member_right e (edges_by (Content x.0) (targets_of_value x.1)) (content_edges (put_content hs c v)) (put_there hs c v z e m)
     ] refl h
 
@@ -108,7 +105,7 @@ content_more (h ∷ hs) c v = ap (λ l. edges_by (Content h.0) (targets_of_value
 -- the next cown is none of those that the state names
 fresh_cown : (s : State) → WellFormed s → (d : CownId) → Member d (own_cowns s) → same_cown (next_cown s) d ≡ false
 fresh_cown s t d m = false_from_ne_true _ (λ e.
-    let same : next_cown s ≡ d = cown_is (next_cown s) d e in
+    let same : next_cown s ≡ d = same_cown_is (next_cown s) d e in
     let n = t.cowns_numbered d (Member_left d (own_cowns s) (flat_map cowns_of_value (all_values s)) m) (ap (λ (z : CownId). z.birth) (sym same)) in
     let k : s.cowns + 1 ≡ d.seq = ap (λ (z : CownId). z.seq) same in
     absurd (omega (arith, n.1, k)))

@@ -10,7 +10,7 @@ use Rattle.lf_base.specs.declared.values.Value.{Value}
 use Rattle.lf_base.specs.CloseResult.{close_result, closed_fields, closed_slot, closed_value, leads_into}
 use Rattle.lf_base.specs.Edges.{Content, Edge, Field, Slot, Source, content_edges, edges, edges_by, field_targets, row_edges, rows_edges, slot_edges, slot_targets}
 use Rattle.lf_base.specs.Names.{cowns_of_value, is_local, same_key, same_name, targets_of_value}
-use Rattle.lf_base.specs.Owners.{names, owner_in, row_at, row_owner}
+use Rattle.lf_base.specs.Owners.{names, owner_in}
 use Rattle.lf_base.specs.Ownership.{is_in_other, is_owning, owning_edges}
 use Rattle.lf_base.specs.PlainChanges.{put_slot, slot_at}
 use Rattle.lf_base.specs.PlainState.{Row, State}
@@ -24,6 +24,7 @@ use Rattle.lf_base.proofs.ListLemmas.Tests.{some_is}
 use Rattle.lf_base.proofs.ListLemmas.Members.{Member_flat_map, Member_of_flat_map, Member_of_map, Member_left, Member_of_append, Member_right}
 use Rattle.lf_laws.proofs.Changes.SameOwners.{owners_well_formed, slot_owns, slot_target, slot_value, with_both}
 use Rattle.lf_base.specs.declared.values.Value.TheVariants as value
+use Rattle.lf_laws.proofs.Rows.MappedRows.{mapped_names, mapped_owner}
 
 abbrev field_keys : Row → List Key
 field_keys r = map (λ (f : Key × Value). f.0) r.fields
@@ -45,17 +46,10 @@ pub record Trims (f : Row → Row) : Type 0 where
 
 module _ (f : Row → Row) (c : Trims f) where
   trimmed_names : (rows : List Row) → names (map f rows) ≡ names rows
-  trimmed_names [] = refl
-  trimmed_names (r ∷ rs) = (λ i. c.name r i ∷ trimmed_names rs i)
+  trimmed_names = mapped_names f c.name
 
-  trimmed_owner : (rows : List Row) (o : ObjId) → owner_in (map f rows) o ≡ owner_in rows o
-  trimmed_owner [] o = refl
-  trimmed_owner (r ∷ rs) o =
-      ap (λ n. row_owner (cond (same_name n o) (Some (f r)) (row_at (map f rs) o))) (c.name r)
-      ∙ elim (same_name r.name o) as (λ b. row_owner (cond b (Some (f r)) (row_at (map f rs) o)) ≡ row_owner (cond b (Some r) (row_at rs o))) [
-        | true ↦ ap Some (c.owner r)
-        | false ↦ trimmed_owner rs o
-      ]
+  pub trimmed_owner : (rows : List Row) (o : ObjId) → owner_in (map f rows) o ≡ owner_in rows o
+  trimmed_owner = mapped_owner f c.name c.owner
 
   trimmed_row : (r : Row) → Sub (row_edges (f r)) (row_edges r)
   trimmed_row r = subst (λ n. Sub (edges_by (Field n) (field_targets (f r).fields)) (row_edges r)) (sym (c.name r)) (sub_map (λ (o : ObjId). record { from = Field r.name; to = o }) (c.less r))
@@ -94,7 +88,7 @@ module _ (f : Row → Row) (c : Trims f) where
           | inr h ↦ absurd (none_in o.0 (targets_of_value v.0) h.0 v.1.1)
         ]
 
-    edge_old : (e : Edge) → Member e (edges (with_both s slots rows)) → Member e (edges s)
+    pub edge_old : (e : Edge) → Member e (edges (with_both s slots rows)) → Member e (edges s)
     edge_old e m = elim (Member_of_append e (slot_edges slots) (rows_edges rows ++ rest) m) [
       | inl h ↦ Member_left e (slot_edges s.slots) (rows_edges s.rows ++ rest) (slot_edge_old e h)
       | inr h ↦ Member_right e (slot_edges s.slots) (rows_edges s.rows ++ rest) (sub_within (sub_append (trimmed_edges s.rows) (sub_all rest)) e h)
@@ -169,10 +163,10 @@ drop_part [] k = none
 drop_part (f ∷ fs) k = elim (same_key f.0 k) as (λ b. Sub (cond b fs (f ∷ drop_field fs k)) (f ∷ fs)) [ true ↦ pass (sub_all fs) | false ↦ take (drop_part fs k) ]
 
 module _ (x : ObjId) (k : Key) where
-  abbrev taken : Row → Row
+  abbrev pub taken : Row → Row
   taken r = cond (is_at x r) (record r { fields = drop_field r.fields k }) r
 
-  taken_trims : Trims taken
+  pub taken_trims : Trims taken
   taken_trims = record {
     name = λ r. elim (is_at x r) as (λ b. (cond b (record r { fields = drop_field r.fields k }) r).name ≡ r.name) [ true ↦ refl | false ↦ refl ];
     owner = λ r. elim (is_at x r) as (λ b. (cond b (record r { fields = drop_field r.fields k }) r).owner ≡ r.owner) [ true ↦ refl | false ↦ refl ];
@@ -191,6 +185,18 @@ nothing (x ∷ xs) = pass (nothing xs)
 
 none_some : (v : Value) → None ≡ Some v → ⊥
 none_some v e = cc
+
+pub at_member : (slots : List (Option Value)) (n : ℕ) (v : Value) → slot_at slots n ≡ Some v → Member (Some v) slots
+at_member [] n v e = absurd (none_some v e)
+at_member (x ∷ xs) zero v e = inl e
+at_member (x ∷ xs) (suc n) v e = inr (at_member xs n v e)
+
+pub put_member : (slots : List (Option Value)) (n : ℕ) (w x : Option Value) → Member x (put_slot slots n w) → Member x slots ⊎ (w ≡ x)
+put_member [] n w x m = absurd m
+put_member (y ∷ ys) zero w x (inl e) = inr e
+put_member (y ∷ ys) zero w x (inr m) = inl (inr m)
+put_member (y ∷ ys) (suc n) w x (inl e) = inl (inl e)
+put_member (y ∷ ys) (suc n) w x (inr m) = elim (put_member ys n w x m) [ inl h ↦ inl (inr h) | inr h ↦ inr h ]
 
 module _ (s : State) (r : ObjId) where
   closed_or_same : (v : Value) → (closed_value s r v ≡ v) ⊎ (closed_value s r v ≡ value.None)
@@ -218,10 +224,10 @@ module _ (s : State) (r : ObjId) where
   ]
   values_after (f ∷ fs) w (inr m) = elim (values_after fs w m) [ inl k ↦ inl (inr k) | inr k ↦ inr k ]
 
-  abbrev closed_row : Row → Row
+  abbrev pub closed_row : Row → Row
   closed_row row = closed_fields s r row
 
-  closed_trims : Trims closed_row
+  pub closed_trims : Trims closed_row
   closed_trims = record {
     name = λ x. elim (is_local x.owner) as (λ b. (cond b (record x { fields = map closed_field x.fields }) x).name ≡ x.name) [ true ↦ refl | false ↦ refl ];
     owner = λ x. elim (is_local x.owner) as (λ b. (cond b (record x { fields = map closed_field x.fields }) x).owner ≡ x.owner) [ true ↦ refl | false ↦ refl ];
@@ -240,19 +246,7 @@ module _ (s : State) (r : ObjId) where
   slots_closed : (slots : List (Option Value)) (v : Value) → Member (Some v) (map (closed_slot s r) slots) → Member (Some v) slots ⊎ NamesNothing v
   slots_closed slots v m = let x = Member_of_map (closed_slot s r) (Some v) slots m in was x.0 v x.1.1 slots x.1.0
 
-  at_member : (slots : List (Option Value)) (n : ℕ) (v : Value) → slot_at slots n ≡ Some v → Member (Some v) slots
-  at_member [] n v e = absurd (none_some v e)
-  at_member (x ∷ xs) zero v e = inl e
-  at_member (x ∷ xs) (suc n) v e = inr (at_member xs n v e)
-
-  put_member : (slots : List (Option Value)) (n : ℕ) (w x : Option Value) → Member x (put_slot slots n w) → Member x slots ⊎ (w ≡ x)
-  put_member [] n w x m = absurd m
-  put_member (y ∷ ys) zero w x (inl e) = inr e
-  put_member (y ∷ ys) zero w x (inr m) = inl (inr m)
-  put_member (y ∷ ys) (suc n) w x (inl e) = inl (inl e)
-  put_member (y ∷ ys) (suc n) w x (inr m) = elim (put_member ys n w x m) [ inl h ↦ inl (inr h) | inr h ↦ inr h ]
-
-  slots_after : (n : ℕ) (v : Value) → Member (Some v) (put_slot (map (closed_slot s r) s.slots) n (slot_at s.slots n)) → Member (Some v) s.slots ⊎ NamesNothing v
+  pub slots_after : (n : ℕ) (v : Value) → Member (Some v) (put_slot (map (closed_slot s r) s.slots) n (slot_at s.slots n)) → Member (Some v) s.slots ⊎ NamesNothing v
   slots_after n v m = elim (put_member (map (closed_slot s r) s.slots) n (slot_at s.slots n) (Some v) m) [
     | inl h ↦ slots_closed s.slots v h
     | inr h ↦ inl (at_member s.slots n v h)

@@ -1,5 +1,5 @@
 -- A freeze leaves a well-formed state.
-use Rattle.std.proofs.Common.{Bool, List, None, Option, Some, [], ap, arith, cond, false, inl, inr, map, not, refl, subst, sym, true, ℕ, ◌&&◌, ◌++◌, ◌||◌, ◌∙◌, ◌∷◌, ◌≡◌, ◌≤◌, ◌⊎◌}
+use Rattle.std.proofs.Common.{Bool, List, None, Option, Some, [], ap, arith, cond, false, inl, inr, map, not, refl, subst, sym, true, ℕ, ◌&&◌, ◌++◌, ◌||◌, ◌∙◌, ◌≡◌, ◌≤◌, ◌⊎◌}
 use Rattle.std.proofs.lemmas.List.Sums.{sum_by-append}
 use Rattle.std.specs.List.{count_by, filter, flat_map}
 use Rattle.lf_base.specs.declared.ids.CownId.{CownId}
@@ -36,6 +36,7 @@ use Rattle.lf_laws.proofs.Dropping.RowsInPlace.{rows_in_place}
 use Rattle.lf_base.proofs.NameLemmas.NameOrder.{name_below_trans}
 use Rattle.lf_laws.proofs.Dropping.RowsWithout.{owner_lost, owner_old, owner_stay, show}
 use Rattle.std.proofs.lemmas.Option.{none-some}
+use Rattle.lf_laws.proofs.Edges.RowsGone.{frozen_same}
 
 -- what the parts of a state have in turn was there before, where some rows leave and become its own
 parts_within : {X : Type 0} (slots rows' rows held made given own' own : List X) → Within rows' rows → ((x : X) → Member x own' → Member x rows ⊎ Member x own)
@@ -142,19 +143,15 @@ module _ (s : State) (v : Value) (t : WellFormed s) where
       (λ i. or_frozen (has_row s.given o || same i) (owner_stay s.rows gone o e i))
 
   -- ---- edges after
-  cold_edges : (xs : List Row) → rows_edges (map frozen_row xs) ≡ rows_edges xs
-  cold_edges [] = refl
-  cold_edges (x ∷ xs) = ap (λ l. row_edges x ++ l) (cold_edges xs)
-
   own_edge : (e : Edge) → Member e (rows_edges own) → Member e (rows_edges s.rows) ⊎ Member e (rows_edges s.own)
   own_edge e m =
       let x = Member_of_flat_map row_edges e own m in
       elim (all_inserted cold s.own x.0 x.1.0) [
-        | inl k ↦ inl (Within_flat_map row_edges set s.rows (freeze_within s v) e (subst (Member e) (cold_edges set) (Member_flat_map row_edges x.0 e cold k x.1.1)))
+        | inl k ↦ inl (Within_flat_map row_edges set s.rows (freeze_within s v) e (subst (Member e) (frozen_same set) (Member_flat_map row_edges x.0 e cold k x.1.1)))
         | inr k ↦ inr (Member_flat_map row_edges x.0 e s.own k x.1.1)
       ]
 
-  edge_before : (e : Edge) → Member e (edges after) → Member e (edges s)
+  pub edge_before : (e : Edge) → Member e (edges after) → Member e (edges s)
   edge_before = parts_within (slot_edges s.slots) (rows_edges rows) (rows_edges s.rows) (content_edges s.held) (content_edges s.made) (rows_edges s.given) (rows_edges own) (rows_edges s.own)
       (Within_flat_map row_edges rows s.rows (sub_within rows_part)) own_edge
 

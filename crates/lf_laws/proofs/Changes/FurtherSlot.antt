@@ -11,7 +11,7 @@ use Rattle.lf_base.proofs.ListLemmas.Members.{Member_flat_map, Member_left, Memb
 use Rattle.lf_laws.proofs.Changes.SameOwners.{slots_keep, value_may_be_held}
 
 -- what a slot holds is among the values
-slot_held : (s : State) (v : Value) → Member (Some v) s.slots → Member v (all_values s)
+pub slot_held : (s : State) (v : Value) → Member (Some v) s.slots → Member v (all_values s)
 slot_held s v m = Member_left v (slot_values s.slots) _ (Member_flat_map option_to_list (Some v) v s.slots m (inl refl))
 
 module _ (s : State) (v : Value) (t : WellFormed s) where

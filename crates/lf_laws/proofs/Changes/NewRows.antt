@@ -1,6 +1,5 @@
 -- A new object and a new region keep a state well-formed.
-use Rattle.std.proofs.Common.{Bool, List, None, Option, Some, [], ap, arith, cond, false, inl, inr, map, refl, subst, sym, true, ℕ, ◌&&◌, ◌++◌, ◌+◌, ◌||◌, ◌∙◌, ◌∷◌, ◌≡◌, ◌≤◌, ◌⊎◌}
-use Rattle.std.proofs.lemmas.List.Sums.{sum_by-cons}
+use Rattle.std.proofs.Common.{List, None, Some, [], ap, arith, cond, false, inl, inr, map, refl, subst, sym, true, ◌&&◌, ◌++◌, ◌+◌, ◌||◌, ◌∙◌, ◌≡◌, ◌≤◌, ◌⊎◌}
 use Rattle.std.specs.List.{count_by, flat_map}
 use Rattle.lf_base.specs.declared.ids.ObjId.{ObjId}
 use Rattle.lf_base.specs.declared.values.Key.{Key}
@@ -16,11 +15,11 @@ use Rattle.lf_base.specs.PlainState.{Row, State}
 use Rattle.lf_base.specs.Sets.{Differ, Member}
 use Rattle.lf_base.specs.WellFormed.{IsNumber, Leads, WellFormed, all_names, content_values, field_values, from_content, from_near, from_row, may_lead, own_cowns, slot_values}
 use Rattle.std.proofs.lemmas.Bool.{and_parts, both_ways, false_from_ne_true}
-use Rattle.lf_base.proofs.ListLemmas.Tests.{some_is, any_none, none_count}
+use Rattle.lf_base.proofs.ListLemmas.Tests.{some_is, any_none, none_count, count_like}
 use Rattle.lf_base.proofs.NameLemmas.RowNames.{inserted, inserted_name, inserted_order, has_names}
 use Rattle.lf_laws.proofs.Rows.InsertedRows.{inserted_differ, inserted_edges, inserted_owner, inserted_values}
-use Rattle.lf_laws.proofs.Rows.OwnerTests.{in_is, in_not_frozen, in_not_local, local_not_frozen}
-use Rattle.lf_laws.proofs.Rows.RowsByName.{owner_has}
+use Rattle.lf_laws.proofs.Rows.OwnerTests.{in_is, in_not_frozen, in_not_local, local_not_frozen, source_near}
+use Rattle.lf_laws.proofs.Rows.RowsByName.{owner_has, no_owner}
 use Rattle.lf_base.proofs.NameLemmas.SameNames.{same_name_is, same_name_itself}
 use Rattle.lf_laws.proofs.Owners.OwnersGoRound.{owns_before, round_before}
 use Rattle.lf_laws.proofs.Changes.SameOwners.{lead_there}
@@ -53,7 +52,7 @@ module _ (s : State) (w : Owner) (t : WellFormed s) (kind : NewOwner s w) where
   no_name : (os : List ObjId) → Within os (all_names s) → has_name os new ≡ false
   no_name os h = any_none (λ p. same_name p new) os (λ o m. fresh o (h o m))
 
-  no_row : has_row s.rows new ≡ false
+  pub no_row : has_row s.rows new ≡ false
   no_row = sym (has_names s.rows new) ∙ no_name (names s.rows) (λ o m. Member_left o (names s.rows) (names s.given ++ names s.own) m)
 
   no_given : has_row s.given new ≡ false
@@ -62,20 +61,16 @@ module _ (s : State) (w : Owner) (t : WellFormed s) (kind : NewOwner s w) where
   no_own : has_row s.own new ≡ false
   no_own = sym (has_names s.own new) ∙ no_name (names s.own) (λ o m. Member_right o (names s.rows) (names s.given ++ names s.own) (Member_right o (names s.given) (names s.own) m))
 
-  none_by : (u : Option Owner) → owner_in s.rows new ≡ u → u ≡ None
-  none_by None e = refl
-  none_by (Some v) e = absurd (both_ways _ no_row (owner_has s.rows new v e))
-
   owner_none : owner_of s new ≡ None
-  owner_none = (λ i. or_frozen (no_given i || no_own i) (none_by (owner_in s.rows new) refl i))
+  owner_none = (λ i. or_frozen (no_given i || no_own i) (no_owner s.rows new no_row i))
 
-  owner_at : (o : ObjId) → owner_in rows o ≡ cond (same_name new o) (Some w) (owner_in s.rows o)
+  pub owner_at : (o : ObjId) → owner_in rows o ≡ cond (same_name new o) (Some w) (owner_in s.rows o)
   owner_at o = inserted_owner row s.rows o no_row
 
-  owner_new : owner_in rows new ≡ Some w
+  pub owner_new : owner_in rows new ≡ Some w
   owner_new = owner_at new ∙ ap (λ b. cond b (Some w) (owner_in s.rows new)) (same_name_itself new)
 
-  owner_else : (o : ObjId) → same_name new o ≡ false → owner_in rows o ≡ owner_in s.rows o
+  pub owner_else : (o : ObjId) → same_name new o ≡ false → owner_in rows o ≡ owner_in s.rows o
   owner_else o h = owner_at o ∙ ap (λ b. cond b (Some w) (owner_in s.rows o)) h
 
   -- what is in the domain isn't the new row
@@ -84,10 +79,6 @@ module _ (s : State) (w : Owner) (t : WellFormed s) (kind : NewOwner s w) where
 
   owner_same : (o : ObjId) → from_near (owner_of s o) ≡ true → owner_of after o ≡ owner_of s o
   owner_same o e = ap (or_frozen (has_row s.given o || has_row s.own o)) (owner_else o (not_new o e))
-
-  source_near : (a : Option Owner) (o : ObjId) (b : Option Owner) → from_row a o b ≡ true → from_near a ≡ true
-  source_near (Some v) o b e = refl
-  source_near None o b e = e
 
   lead_on : (f : Source) (o : ObjId) → may_lead s f o ≡ true → may_lead after f o ≡ true
   lead_on Slot o e = ap from_near (owner_same o (lead_there s Slot o e)) ∙ e
@@ -103,13 +94,13 @@ module _ (s : State) (w : Owner) (t : WellFormed s) (kind : NewOwner s w) where
   leads_after : Leads after
   leads_after e m = lead_on e.from e.to (t.leads e (edge_before e m))
 
-  target_old : (e : Edge) → Member e (edges s) → same_name new e.to ≡ false
+  pub target_old : (e : Edge) → Member e (edges s) → same_name new e.to ≡ false
   target_old e m = not_new e.to (lead_there s e.from e.to (t.leads e m))
 
-  source_old : (e : Edge) → Member e (edges s) → (p : ObjId) → e.from ≡ Field p → same_name new p ≡ false
+  pub source_old : (e : Edge) → Member e (edges s) → (p : ObjId) → e.from ≡ Field p → same_name new p ≡ false
   source_old e m p f = not_new p (source_near (owner_of s p) e.to (owner_of s e.to) (ap (λ z. may_lead s z e.to) (sym f) ∙ t.leads e m))
 
-  owning_old : (e : Edge) → Member e (edges s) → (f : Source) → e.from ≡ f → (r : ObjId) → is_owning rows f r ≡ is_owning s.rows f r
+  pub owning_old : (e : Edge) → Member e (edges s) → (f : Source) → e.from ≡ f → (r : ObjId) → is_owning rows f r ≡ is_owning s.rows f r
   owning_old e m Slot h r = refl
   owning_old e m (Field p) h r = ap (is_in_other r) (owner_else p (source_old e m p h))
   owning_old e m (Content c) h r = refl
@@ -118,10 +109,6 @@ module _ (s : State) (w : Owner) (t : WellFormed s) (kind : NewOwner s w) where
   from_old e m Slot h q = refl
   from_old e m (Field p) h q = ap (is_in q) (owner_else p (source_old e m p h))
   from_old e m (Content c) h q = refl
-
-  count_like : {X : Type 0} (p q : X → Bool) (xs : List X) → ((x : X) → Member x xs → p x ≡ q x) → count_by p xs ≡ count_by q xs
-  count_like p q [] h = refl
-  count_like p q (x ∷ xs) h = omega (arith, sum_by-cons (λ y. cond (p y) 1 0) x xs, sum_by-cons (λ y. cond (q y) 1 0) x xs, ap {B = ℕ} (λ b. cond b 1 0) (h x (inl refl)), count_like p q xs (λ y m. h y (inr m)))
 
   owning_count : (r : ObjId) → owning_edges after r ≡ owning_edges s r
   owning_count r = ap (count_by (λ (e : Edge). is_owning rows e.from r && same_name e.to r)) edges_same

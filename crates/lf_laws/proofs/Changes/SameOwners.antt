@@ -114,7 +114,7 @@ slot_value (Some u) v (inl e) = ap Some e
 slot_value (Some u) v (inr m) = absurd m
 
 module _ (s : State) (slots : List (Option Value)) (t : WellFormed s) (may : (v : Value) → Member (Some v) slots → SlotMayHold s v) where
-  slot_edge : (e : Edge) → Member e (slot_edges slots) → (e.from ≡ Slot) × (from_near (owner_of s e.to) ≡ true)
+  pub slot_edge : (e : Edge) → Member e (slot_edges slots) → (e.from ≡ Slot) × (from_near (owner_of s e.to) ≡ true)
   slot_edge e m =
       let x = Member_of_flat_map (λ slot. edges_by Slot (slot_targets slot)) e slots m in
       let o = Member_of_map (λ (o : ObjId). record { from = Slot; to = o }) e (slot_targets x.0) x.1.1 in

@@ -26,6 +26,7 @@ use Rattle.lf_laws.proofs.Dropping.RowsInPlace.{RowsInPlace}
 use Rattle.lf_laws.proofs.Dropping.HangingIsWatched.{bare_goes, bare_inner, bare_region}
 use Rattle.lf_base.proofs.ListLemmas.Tests.{any_none, count_none, none_any, none_count}
 use Rattle.lf_laws.proofs.Rows.EdgeSources.{at_content, at_frozen, at_row, at_slot, edge_begins}
+use Rattle.lf_base.specs.Losses.{of_region}
 
 pub rest_within : (s : State) (gone : ObjId → Bool) → Within (edges (without s gone)) (edges s)
 rest_within s gone = Within_append (slot_edges s.slots) (slot_edges s.slots) _ _ (λ x h. h)
@@ -128,9 +129,6 @@ module _ (s : State) (g : RowsInPlace s) where
     apart = λ p q k e n b. alive (subst (Bare s) (in_is q r (owner_is s.rows p (In q) (In r) k (ap (owner_in s.rows) (sym (same_name_is o p e)) ∙ h))) b);
   }
 
-  abbrev pub of_region : ObjId → ObjId → Bool
-  of_region r o = is_in r (owner_in s.rows o)
-
   bare_of : (r : ObjId) → borrowed s r ≡ 0 → owning_edges s r ≡ 0 → Bare s r
   bare_of r b z = record { unowned = zero_owned r z; unborrowed = zero_into r b }
 
@@ -146,16 +144,16 @@ module _ (s : State) (g : RowsInPlace s) where
   not_content o r e = same_name_is r o e
 
   -- no edge from outside leads into the region
-  region_clear : (r : ObjId) → owner_in s.rows r ≡ Some (In r) → borrowed s r ≡ 0 → owning_edges s r ≡ 0 → (e : Edge) → Member e (edges (without s (of_region r))) → of_region r e.to ≡ true → ⊥
+  region_clear : (r : ObjId) → owner_in s.rows r ≡ Some (In r) → borrowed s r ≡ 0 → owning_edges s r ≡ 0 → (e : Edge) → Member e (edges (without s (of_region s r))) → of_region s r e.to ≡ true → ⊥
   region_clear r h b z e m t =
       let own : owner_in s.rows e.to ≡ Some (In r) = in_region r (owner_in s.rows e.to) t in
-      let old : Member e (edges s) = rest_within s (of_region r) e m in
+      let old : Member e (edges s) = rest_within s (of_region s r) e m in
       let not_near : is_borrower s.rows e.from ≡ true → ⊥ = λ n. both_ways _ (count_none (borrows s.rows r) (edges s) b e old) (and_from _ _ n t) in
       let not_owning : is_owning s.rows e.from r ≡ true → r ≡ e.to → ⊥ = λ n k. both_ways _ (count_none (λ (d : Edge). is_owning s.rows d.from r && same_name d.to r) (edges s) z e old) (and_from _ _ n (ap (λ x. same_name x r) (sym k) ∙ same_name_itself r)) in
-      elim (edge_begins (without s (of_region r)) e m) [
+      elim (edge_begins (without s (of_region s r)) e m) [
         | at_slot f k ↦ not_near (ap (is_borrower s.rows) f)
         | at_row x y f k ↦
-            let u = Member_of_filter (λ (w : Row). not (of_region r w.name)) x s.rows y in
+            let u = Member_of_filter (λ (w : Row). not (of_region s r w.name)) x s.rows y in
             let own_x : owner_in s.rows x.name ≡ Some (x.owner) = owner_mem s.rows g.distinct x u.0 in
             elim (to_region x.owner e.to r (row_leads s g.distinct g.leads x u.0 e old f (In r) own)) [
               | inl l ↦ not_near (ap (is_borrower s.rows) f ∙ ap is_local_at (own_x ∙ ap Some l))
@@ -169,7 +167,7 @@ module _ (s : State) (g : RowsInPlace s) where
             ∙ lead_of e old e.to refl (Field x.name) f in cc
       ]
 
-  pub region_goes : (r : ObjId) → owner_in s.rows r ≡ Some (In r) → borrowed s r ≡ 0 → owning_edges s r ≡ 0 → CanGo s (of_region r)
+  pub region_goes : (r : ObjId) → owner_in s.rows r ≡ Some (In r) → borrowed s r ≡ 0 → owning_edges s r ≡ 0 → CanGo s (of_region s r)
   region_goes r h b z = record {
     must = λ o e. let k : owner_in s.rows o ≡ Some (In r) = in_region r (owner_in s.rows o) e in
         record { here = owner_has s.rows o (In r) k; goes = false_from_ne_true _ (region_must r h (bare_of r b z) o k) };

@@ -53,7 +53,7 @@ module _ (s : State) (t : WellFormed s) where
       subst (λ n. has_row (kept_rows s) n ≡ true) y.name (mem_has y.row (kept_rows s) m)
 
   -- with a row its bridge stays
-  bridge_stays : (p r : ObjId) → owner_in s.rows p ≡ Some (In r) → has_row (kept_rows s) p ≡ true → has_row (kept_rows s) r ≡ true
+  pub bridge_stays : (p r : ObjId) → owner_in s.rows p ≡ Some (In r) → has_row (kept_rows s) p ≡ true → has_row (kept_rows s) r ≡ true
   bridge_stays p r own k =
       elim (same_name r p) as (λ b. same_name r p ≡ b → has_row (kept_rows s) r ≡ true) [
         | true ↦ λ e. ap (has_row (kept_rows s)) (same_name_is r p e) ∙ k
@@ -146,7 +146,7 @@ module _ (s : State) (t : WellFormed s) where
     | at_frozen x n f ↦ absurd (frozen_leads_on e x n f (rest_within s lost e m) w h)
   ]
 
-  lost_can_go : CanGo s lost
+  pub lost_can_go : CanGo s lost
   lost_can_go = record {
     must = λ o e. let p = and_parts (has_row s.rows o) _ e in record { here = p.0; goes = not-true _ p.1 };
     clear = λ e m. false_from_ne_true _ (λ h.
@@ -160,7 +160,7 @@ module _ (s : State) (t : WellFormed s) where
         both_ways _ (bare_region s g r b) (stays_all s g r (In r) top k);
   }
 
-  kept_is_left : kept_rows s ≡ (without s lost).rows
+  pub kept_is_left : kept_rows s ≡ (without s lost).rows
   kept_is_left = sub_same (kept_rows s) (without s lost).rows s.rows g.distinct (sub_shrink (stays s) (length s.rows) s.rows) (sub_filter (λ (r : Row). not (lost r.name)) s.rows) kept_left left_kept
 
   pub well_formed_kept : WellFormed (kept s)

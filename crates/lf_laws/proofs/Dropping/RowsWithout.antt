@@ -69,7 +69,12 @@ distinct_filter p (r ∷ rs) d = elim (p r) as (λ b. Distinct (cond b (r ∷ fi
   | false ↦ distinct_filter p rs d.1
 ]
 
-module _ (s : State) (g : RowsInPlace s) (gone : ObjId → Bool) (c : CanGo s gone) where
+-- a set of rows may be left out before what stays is found: none of them stays, and nothing that is left leads to them
+pub record MayBeLeftOut (s : State) (gone : ObjId → Bool) : Type 0 where
+  pub none_stays : (x : Row) → Member x (kept_rows s) → gone x.name ≡ false
+  pub clear : (e : Edge) → Member e (edges (without s gone)) → gone e.to ≡ false
+
+module _ (s : State) (d : Distinct s.rows) (gone : ObjId → Bool) (c : MayBeLeftOut s gone) where
   abbrev rest : State
   rest = without s gone
 
@@ -83,11 +88,8 @@ module _ (s : State) (g : RowsInPlace s) (gone : ObjId → Bool) (c : CanGo s go
   rest_edges = Within_append (slot_edges s.slots) (slot_edges s.slots) _ _ (λ x h. h)
       (Within_append (rows_edges rest.rows) (rows_edges s.rows) _ _ (Within_flat_map row_edges rest.rows s.rows rest_rows) (λ x h. h))
 
-  kept_named : (x : Row) → Member x (kept_rows s) → gone x.name ≡ false
-  kept_named x m = false_from_ne_true _ (λ k. both_ways _ (c.must x.name k).goes (mem_has x (kept_rows s) m))
-
   kept_rest : Within (kept_rows s) rest.rows
-  kept_rest x m = Member_filter (λ (r : Row). not (gone r.name)) x s.rows (kept_in s x m) (not_from_false _ (kept_named x m))
+  kept_rest x m = Member_filter (λ (r : Row). not (gone r.name)) x s.rows (kept_in s x m) (not_from_false _ (c.none_stays x m))
 
   -- an edge from a slot or a row that stays leads to a row that stays
   near_clear : (rows : List Row) → Within rows rest.rows → (e : Edge) → Member e (slot_edges s.slots ++ rows_edges rows) → gone e.to ≡ false
@@ -176,31 +178,41 @@ module _ (s : State) (g : RowsInPlace s) (gone : ObjId → Bool) (c : CanGo s go
   rest_kept_in : Within (kept_rows rest) rest.rows
   rest_kept_in = kept_in rest
 
-  pub kept_without : kept_rows rest ≡ kept_rows s
-  kept_without =
-      sub_same (kept_rows rest) (kept_rows s) s.rows g.distinct
+  pub kept_left_out : kept_rows rest ≡ kept_rows s
+  kept_left_out =
+      sub_same (kept_rows rest) (kept_rows s) s.rows d
       (sub_then (sub_shrink (stays rest) (length rest.rows) rest.rows) (sub_filter _ s.rows))
       (sub_shrink (stays s) (length s.rows) s.rows)
       (kept_has s (kept_rows rest) (λ x m. stays_less (kept_rows rest) x.name x.owner (kept_meets rest x m)) (λ x m. rest_rows x (rest_kept_in x m)))
       (kept_has rest (kept_rows s) (λ x m. stays_back (kept_rows s) kept_rest x.name x.owner (kept_meets s x m)) kept_rest)
 
+module _ (s : State) (g : RowsInPlace s) (gone : ObjId → Bool) (c : CanGo s gone) where
+  left_out : MayBeLeftOut s gone
+  left_out = record {
+    none_stays = λ x m. false_from_ne_true _ (λ k. both_ways _ (c.must x.name k).goes (mem_has x (kept_rows s) m));
+    clear = c.clear;
+  }
+
+  pub kept_without : kept_rows (without s gone) ≡ kept_rows s
+  kept_without = kept_left_out s g.distinct gone left_out
+
   -- ---- the setting stays
   frozen_left : (o : ObjId) → (has_row s.given o || has_row s.own o) ≡ true → gone o ≡ false
   frozen_left o h = false_from_ne_true _ (λ k. let t = owner_there s.rows g.distinct o (c.must o k).here in none-some t.owner (sym (g.apart o h) ∙ t.is))
 
-  frozen_edge : (rows : List Row) → ((o : ObjId) → has_row rows o ≡ true → gone o ≡ false) → (e : Edge) → Member e (rows_edges rows) → Left e.from
+  frozen_edge : (rows : List Row) → ((o : ObjId) → has_row rows o ≡ true → gone o ≡ false) → (e : Edge) → Member e (rows_edges rows) → Left s g.distinct gone left_out e.from
   frozen_edge rows h e m p f = let x = edge_row rows e m in ap gone (field_is p (x.row).name (sym f ∙ x.from)) ∙ h (x.row).name (mem_has x.row rows x.mem)
 
-  all_left : (e : Edge) → Member e (edges rest) → Left e.from
+  all_left : (e : Edge) → Member e (edges (without s gone)) → Left s g.distinct gone left_out e.from
   all_left e m =
       elim (Member_of_append e (slot_edges s.slots) _ m) [
-        | inl k ↦ λ p f. let z = sym (slot_from e k) ∙ f in cc
-        | inr k ↦ elim (Member_of_append e (rows_edges rest.rows) _ k) [
-          | inl n ↦ row_left rest.rows (λ x h. h) e n
+        | inl k ↦ λ p f. let z = sym (slot_from s g.distinct gone left_out e k) ∙ f in cc
+        | inr k ↦ elim (Member_of_append e (rows_edges (without s gone).rows) _ k) [
+          | inl n ↦ row_left s g.distinct gone left_out (without s gone).rows (λ x h. h) e n
           | inr n ↦ elim (Member_of_append e (content_edges s.held) _ n) [
-            | inl q ↦ content_from s.held e q
+            | inl q ↦ content_from s g.distinct gone left_out s.held e q
             | inr q ↦ elim (Member_of_append e (content_edges s.made) _ q) [
-              | inl z ↦ content_from s.made e z
+              | inl z ↦ content_from s g.distinct gone left_out s.made e z
               | inr z ↦ elim (Member_of_append e (rows_edges s.given) (rows_edges s.own) z) [
                 | inl y ↦ frozen_edge s.given (λ o h. frozen_left o (or_left _ _ h)) e y
                 | inr y ↦ frozen_edge s.own (λ o h. frozen_left o (ap (λ b. has_row s.given o || b) h ∙ or-true _)) e y
@@ -210,22 +222,22 @@ module _ (s : State) (g : RowsInPlace s) (gone : ObjId → Bool) (c : CanGo s go
         ]
       ]
 
-  lead_same : (f : Source) (o : ObjId) → Left f → gone o ≡ false → may_lead rest f o ≡ may_lead s f o
+  lead_same : (f : Source) (o : ObjId) → Left s g.distinct gone left_out f → gone o ≡ false → may_lead (without s gone) f o ≡ may_lead s f o
   lead_same Slot o l n = ap (λ w. from_near (or_frozen (has_row s.given o || has_row s.own o) w)) (owner_stay s.rows gone o n)
   lead_same (Field p) o l n = λ i. from_row (or_frozen (has_row s.given p || has_row s.own p) (owner_stay s.rows gone p (l p refl) i)) o (or_frozen (has_row s.given o || has_row s.own o) (owner_stay s.rows gone o n i))
   lead_same (Content k) o l n = ap (λ w. from_content o (or_frozen (has_row s.given o || has_row s.own o) w)) (owner_stay s.rows gone o n)
 
-  pub in_place_without : RowsInPlace rest
+  pub in_place_without : RowsInPlace (without s gone)
   in_place_without = record {
     distinct = distinct_filter (λ r. not (gone r.name)) s.rows g.distinct;
     bridge = λ o r h. let t = owner_old s.rows gone o (In r) h in
         owner_stay s.rows gone r (false_from_ne_true _ (λ k. both_ways _ t.0 (c.whole o r t.1 k))) ∙ g.bridge o r t.1;
-    leads = λ e m. lead_same e.from e.to (all_left e m) (c.clear e m) ∙ g.leads e (rest_edges e m);
+    leads = λ e m. lead_same e.from e.to (all_left e m) (c.clear e m) ∙ g.leads e ((rest_edges s g.distinct gone left_out) e m);
     apart = λ o h. owner_stay s.rows gone o (frozen_left o h) ∙ g.apart o h;
   }
 
-  pub round_without : round s ≡ [] → round rest ≡ []
-  round_without = round_before s rest (owns_within s rest rest_edges (λ q p e. show (is_in q) refl s.rows gone p e))
+  pub round_without : round s ≡ [] → round (without s gone) ≡ []
+  round_without = round_before s (without s gone) (owns_within s (without s gone) (rest_edges s g.distinct gone left_out) (λ q p e. show (is_in q) refl s.rows gone p e))
 
   -- ---- what is watched stays watched
 
@@ -237,13 +249,13 @@ module _ (s : State) (g : RowsInPlace s) (gone : ObjId → Bool) (c : CanGo s go
   by_either true f h = f refl
   by_either false f h = h refl
 
-  watch_later : (u : Suspect) (new w : List Suspect) (r : ObjId) → Spent gone u → gone r ≡ false → Bare s r → WatchedBy s (u ∷ w) r → WatchedBy rest (new ++ w) r
+  watch_later : (u : Suspect) (new w : List Suspect) (r : ObjId) → Spent gone u → gone r ≡ false → Bare s r → WatchedBy s (u ∷ w) r → WatchedBy (without s gone) (new ++ w) r
   watch_later u new w r p n b (Region q, (inl e, same)) = absurd (both_ways _ (ap gone same ∙ n) (subst (Spent gone) e p))
   watch_later u new w r p n b (Region q, (inr m, same)) = (Region q, (Member_right (Region q) new w m, same))
   watch_later u new w r p n b (Object o, (inl e, own)) = absurd (c.apart o r own (subst (Spent gone) e p) n b)
   watch_later u new w r p n b (Object o, (inr m, own)) = (Object o, (Member_right (Object o) new w m, owner_stay s.rows gone o (false_from_ne_true _ (λ k. c.apart o r own k n b)) ∙ own))
 
-  watch_new : (new w : List Suspect) (r : ObjId) → WatchedBy rest new r → WatchedBy rest (new ++ w) r
+  watch_new : (new w : List Suspect) (r : ObjId) → WatchedBy (without s gone) new r → WatchedBy (without s gone) (new ++ w) r
   watch_new new w r t = (t.0, (Member_left t.0 new w t.1.0, t.1.1))
 
   is_bare : (r : ObjId) (b d : Bool) → is_owned_by s.rows s r ≡ b → points_into s.rows s r ≡ d → (Bare s r) ⊎ (Bare s r → ⊥)
@@ -251,7 +263,7 @@ module _ (s : State) (g : RowsInPlace s) (gone : ObjId → Bool) (c : CanGo s go
   is_bare r false true e h = inr (λ k. both_ways _ k.unborrowed h)
   is_bare r false false e h = inl (record { unowned = e; unborrowed = h })
 
-  pub watched_without : (u : Suspect) (new w : List Suspect) → Spent gone u → Renewed s gone new → Watched s (u ∷ w) → Watched rest (new ++ w)
+  pub watched_without : (u : Suspect) (new w : List Suspect) → Spent gone u → Renewed s gone new → Watched s (u ∷ w) → Watched (without s gone) (new ++ w)
   watched_without u new w p n h = record {
     locals = λ o e k. let t = owner_old s.rows gone o Local e in
         by_either (points s.rows s o) (λ z. Member_left (Object o) new w (n.locals o e z k)) (λ z. later u new w o p t.0 (h.locals o t.1 z));

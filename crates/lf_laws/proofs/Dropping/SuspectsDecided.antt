@@ -10,11 +10,12 @@ use Rattle.lf_base.specs.PlainState.{State}
 use Rattle.lf_base.specs.Settling.{CanGo, Idle, Spent}
 use Rattle.lf_base.specs.Suspects.{Bare, Object, Region, Suspect}
 use Rattle.lf_laws.proofs.Rows.OwnerTests.{in_region, in_is}
-use Rattle.lf_laws.proofs.Dropping.CountsJustifyDropping.{inner_goes, into_zero, local_goes, of_region, owned_zero, points_zero, region_goes}
+use Rattle.lf_laws.proofs.Dropping.CountsJustifyDropping.{inner_goes, into_zero, local_goes, owned_zero, points_zero, region_goes}
 use Rattle.std.proofs.lemmas.Bool.{both_ways}
 use Rattle.lf_laws.proofs.Rows.RowsByName.{owner_is}
 use Rattle.lf_base.proofs.NameLemmas.SameNames.{same_name_itself}
 use Rattle.lf_laws.proofs.Dropping.RowsInPlace.{RowsInPlace}
+use Rattle.lf_base.specs.Losses.{of_region}
 
 pub data Decision (s : State) (u : Suspect) : Type 0 where
   idle : Idle s u → Decision s u
@@ -41,7 +42,7 @@ module _ (s : State) (g : RowsInPlace s) where
   bare_test : (r : ObjId) → (Bare s r) ⊎ (Bare s r → ⊥)
   bare_test r = bare_or r (is_owned_by s.rows s r) (points_into s.rows s r) refl refl
 
-  region_in : (r : ObjId) → owner_in s.rows r ≡ Some (In r) → Bare s r → CanGo s (of_region s g r)
+  region_in : (r : ObjId) → owner_in s.rows r ≡ Some (In r) → Bare s r → CanGo s (of_region s r)
   region_in r h b = region_goes s g r h (into_zero s g r b.unborrowed) (owned_zero s g r b.unowned)
 
   local_choice : (o : ObjId) → owner_in s.rows o ≡ Some Local → (b : Bool) → points s.rows s o ≡ b → Decision s (Object o)
@@ -61,14 +62,14 @@ module _ (s : State) (g : RowsInPlace s) where
   object_choice o (Some Frozen) h = idle ((λ k. absurd (frozen_local (sym h ∙ k))), (λ r k. absurd (frozen_in r (sym h ∙ k))))
   object_choice o (Some Local) h = local_choice o h (points s.rows s o) refl
   object_choice o (Some (In r)) h = elim (bare_test r) [
-    | inl b ↦ goes (of_region s g r) (region_in r (g.bridge o r h) b) (ap (is_in r) h ∙ same_name_itself r)
+    | inl b ↦ goes (of_region s r) (region_in r (g.bridge o r h) b) (ap (is_in r) h ∙ same_name_itself r)
     | inr n ↦ inner_choice o r h n (same_name r o) (points s.rows s o) refl refl
   ]
 
   region_choice : (r : ObjId) (b : Bool) → is_in r (owner_in s.rows r) ≡ b → Decision s (Region r)
   region_choice r false h = idle (λ k b. both_ways _ h (ap (is_in r) k ∙ same_name_itself r))
   region_choice r true h = elim (bare_test r) [
-    | inl b ↦ goes (of_region s g r) (region_in r (in_region r (owner_in s.rows r) h) b) h
+    | inl b ↦ goes (of_region s r) (region_in r (in_region r (owner_in s.rows r) h) b) h
     | inr n ↦ idle (λ k b. n b)
   ]
 

@@ -129,7 +129,7 @@ module _ (s after : State) where
       → (q r : ObjId) → owns after q r ≡ true → owns s q r ≡ true
   owns_within edge old q r = owns_before q r (λ e m f n b. (edge e m, (from_before old q e.from f, old r r b)))
 
-  above_before : ((q r : ObjId) → owns after q r ≡ true → owns s q r ≡ true) → {q r : ObjId} → Above after q r → Above s q r
+  pub above_before : ((q r : ObjId) → owns after q r ≡ true → owns s q r ≡ true) → {q r : ObjId} → Above after q r → Above s q r
   above_before old (direct {q} {r} e) = direct (old q r e)
   above_before old (step {q} {p} e a) = step (old q p e) (above_before old a)
 

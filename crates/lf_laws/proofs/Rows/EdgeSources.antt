@@ -19,7 +19,7 @@ pub data EdgeBegins (s : State) (e : Edge) : Type 0 where
   at_content : (c : CownId) → e.from ≡ Content c → Member e (content_edges s.held ++ content_edges s.made) → EdgeBegins s e
   at_frozen : (x : Row) → (has_row s.given x.name || has_row s.own x.name) ≡ true → e.from ≡ Field x.name → EdgeBegins s e
 
-content_begins : (cs : List (CownId × Value)) (e : Edge) → Member e (content_edges cs) → (c : CownId) × (e.from ≡ Content c)
+pub content_begins : (cs : List (CownId × Value)) (e : Edge) → Member e (content_edges cs) → (c : CownId) × (e.from ≡ Content c)
 content_begins cs e m = let t = Member_of_flat_map _ e cs m in let o = Member_of_map _ e _ t.1.1 in ((t.0).0, ap (λ (d : Edge). d.from) (sym o.1.1))
 
 pub slot_begins : (slots : List (Option Value)) (e : Edge) → Member e (slot_edges slots) → e.from ≡ Slot

@@ -1,9 +1,12 @@
 -- Rows put among others by rising name: difference, owners, edges and values.
-use Rattle.std.proofs.Common.{List, None, Some, [], ap, cond, false, inl, inr, map, refl, sym, true, ◌++◌, ◌||◌, ◌∙◌, ◌∷◌, ◌≡◌, ◌⊎◌}
+use Rattle.lf_base.specs.declared.values.Owner.{Owner}
+use Rattle.std.proofs.lemmas.List.Sums.{sum_by-append}
+use Rattle.std.specs.List.{count_by}
+use Rattle.std.proofs.Common.{List, None, Some, [], ap, cond, false, inl, inr, map, refl, sym, true, ◌++◌, ◌||◌, ◌∙◌, ◌∷◌, ◌≡◌, ◌⊎◌, Bool, Option, arith, subst, ◌+◌}
 use Rattle.lf_base.specs.declared.ids.ObjId.{ObjId}
 use Rattle.lf_base.specs.declared.values.Key.{Key}
 use Rattle.lf_base.specs.declared.values.Value.{Value}
-use Rattle.lf_base.specs.Edges.{Field, edges_by, field_targets, row_edges, rows_edges}
+use Rattle.lf_base.specs.Edges.{Field, edges_by, field_targets, row_edges, rows_edges, Edge}
 use Rattle.lf_base.specs.FreezeResult.{frozen_row, insert_rows}
 use Rattle.lf_base.specs.Names.{name_below, same_name}
 use Rattle.lf_base.specs.Owners.{has_name, has_row, names, owner_in, row_at, row_owner}
@@ -11,10 +14,10 @@ use Rattle.lf_base.specs.PlainChanges.{insert_row}
 use Rattle.lf_base.specs.PlainState.{Row}
 use Rattle.lf_base.specs.Sets.{Differ, InOrder, Member}
 use Rattle.lf_base.specs.WellFormed.{field_values}
-use Rattle.lf_laws.proofs.Rows.RowsByName.{Distinct, has_append}
-use Rattle.lf_base.proofs.ListLemmas.Tests.{any_none, none_any}
+use Rattle.lf_laws.proofs.Rows.RowsByName.{Distinct, has_append, mem_has}
+use Rattle.lf_base.proofs.ListLemmas.Tests.{any_none, none_any, or_swap}
 use Rattle.std.proofs.lemmas.Bool.{both_ways, false_from_ne_true, or_left, or_from}
-use Rattle.lf_base.proofs.ListLemmas.Members.{Member_left, Member_of_append, Member_right}
+use Rattle.lf_base.proofs.ListLemmas.Members.{Member_left, Member_of_append, Member_right, Member_flat_map, Member_map, Member_of_flat_map, Member_of_map}
 use Rattle.std.proofs.Math.Bool.{or-true, or_assoc}
 use Rattle.lf_base.proofs.NameLemmas.RowNames.{has_inserted, has_names, inserted, inserted_name, inserted_order}
 use Rattle.lf_base.proofs.NameLemmas.SameNames.{same_name_is, same_name_itself, other_way}
@@ -127,3 +130,43 @@ differ_all os (x ∷ xs) ys d f g h =
 pub distinct_frozen : (xs : List Row) → Distinct xs → Distinct (map frozen_row xs)
 distinct_frozen [] d = d
 distinct_frozen (x ∷ xs) d = (has_frozen xs x.name ∙ d.0, distinct_frozen xs d.1)
+
+-- ---- owners, counts and edges of rows that were put among others
+abbrev pub or_owner : Option Owner → Option Owner → Option Owner
+or_owner None w = w
+or_owner (Some v) w = Some v
+
+pub owner_all : (xs ys : List Row) (o : ObjId) → Distinct xs → ((x : Row) → Member x xs → has_row ys x.name ≡ false) → owner_in (insert_rows xs ys) o ≡ or_owner (owner_in xs o) (owner_in ys o)
+owner_all [] ys o d h = refl
+owner_all (x ∷ xs) ys o d h =
+    inserted_owner x (insert_rows xs ys) o (none_here xs ys x.name d.0 (h x (inl refl)))
+    ∙ ap (cond (same_name x.name o) (Some (x.owner))) (owner_all xs ys o d.1 (λ y m. h y (inr m)))
+    ∙ elim (same_name x.name o) as (λ b. cond b (Some (x.owner)) (or_owner (owner_in xs o) (owner_in ys o)) ≡ or_owner (row_owner (cond b (Some x) (row_at xs o))) (owner_in ys o)) [ true ↦ refl | false ↦ refl ]
+
+count_row : (p : Edge → Bool) (x : Row) (ys : List Row) → count_by p (rows_edges (insert_row x ys)) ≡ count_by p (row_edges x) + count_by p (rows_edges ys)
+count_row p x [] = sum_by-append (λ e. cond (p e) 1 0) (row_edges x) []
+count_row p x (y ∷ ys) = elim (name_below x.name y.name) as (λ b. count_by p (rows_edges (cond b (x ∷ (y ∷ ys)) (y ∷ insert_row x ys))) ≡ count_by p (row_edges x) + count_by p (rows_edges (y ∷ ys))) [
+  | true ↦ sum_by-append (λ e. cond (p e) 1 0) (row_edges x) (rows_edges (y ∷ ys))
+  | false ↦ omega (arith, sum_by-append (λ e. cond (p e) 1 0) (row_edges y) (rows_edges (insert_row x ys)), sum_by-append (λ e. cond (p e) 1 0) (row_edges y) (rows_edges ys), count_row p x ys)
+]
+
+pub count_rows : (p : Edge → Bool) (xs ys : List Row) → count_by p (rows_edges (insert_rows xs ys)) ≡ count_by p (rows_edges xs) + count_by p (rows_edges ys)
+count_rows p [] ys = omega arith
+count_rows p (x ∷ xs) ys = omega (arith, count_row p x (insert_rows xs ys), count_rows p xs ys, sum_by-append (λ e. cond (p e) 1 0) (row_edges x) (rows_edges xs))
+
+pub rows_edge_of : (xs ys : List Row) (e : Edge) → Member e (rows_edges (insert_rows xs ys)) → Member e (rows_edges xs) ⊎ Member e (rows_edges ys)
+rows_edge_of xs ys e m =
+    let x = Member_of_flat_map row_edges e (insert_rows xs ys) m in
+    elim (all_inserted xs ys x.0 x.1.0) [ inl n ↦ inl (Member_flat_map row_edges x.0 e xs n x.1.1) | inr n ↦ inr (Member_flat_map row_edges x.0 e ys n x.1.1) ]
+
+pub differ_names : (xs ys : List Row) (os : List ObjId) → Distinct xs → ((x : Row) → Member x xs → (o : ObjId) → Member o (names ys ++ os) → same_name o x.name ≡ false) → Differ same_name (names ys ++ os) → Differ same_name (names (insert_rows xs ys) ++ os)
+differ_names [] ys os d h k = k
+differ_names (x ∷ xs) ys os d h k = inserted_differ x (insert_rows xs ys) os
+    (λ o m. elim (Member_of_append o (names (insert_rows xs ys)) os m) [
+      | inl n ↦ let z = Member_of_map (λ (r : Row). r.name) o (insert_rows xs ys) n in elim (all_inserted xs ys z.0 z.1.0) [
+        | inl q ↦ false_from_ne_true _ (λ e. both_ways _ d.0 (subst (λ b. has_row xs b ≡ true) (z.1.1 ∙ same_name_is o x.name e) (mem_has z.0 xs q)))
+        | inr q ↦ h x (inl refl) o (Member_left o (names ys) os (subst (λ b. Member b (names ys)) z.1.1 (Member_map (λ (r : Row). r.name) z.0 ys q)))
+      ]
+      | inr n ↦ h x (inl refl) o (Member_right o (names ys) os n)
+    ])
+    (differ_names xs ys os d.1 (λ y m. h y (inr m)) k)

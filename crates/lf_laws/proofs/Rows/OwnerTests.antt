@@ -73,3 +73,12 @@ in_not_frozen q e = cc
 
 pub in_not_local : (q : ObjId) → Some (In q) ≡ Some Local → ⊥
 in_not_local q e = cc
+
+-- what an edge begins at is in the domain
+pub source_near : (a : Option Owner) (t : ObjId) (b : Option Owner) → from_row a t b ≡ true → from_near a ≡ true
+source_near (Some w) t b e = refl
+source_near None t b e = e
+
+pub frozen_there : (b : Bool) → from_near (or_frozen b None) ≡ true → b ≡ true
+frozen_there true e = refl
+frozen_there false e = cc

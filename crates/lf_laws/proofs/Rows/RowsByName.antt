@@ -1,5 +1,5 @@
 -- Rows found by name: one row for each name, its owner, and the names that differ.
-use Rattle.std.proofs.Common.{List, [], ap, cond, false, inl, inr, refl, subst, sym, true, ◌||◌, ◌∙◌, ◌∷◌, ◌≡◌, Some, ◌++◌}
+use Rattle.std.proofs.Common.{List, None, [], ap, cond, false, inl, inr, refl, subst, sym, true, ◌||◌, ◌∙◌, ◌∷◌, ◌≡◌, Some, ◌++◌}
 use Rattle.lf_base.specs.Names.{same_name}
 use Rattle.lf_base.specs.Owners.{has_row, row_at, owner_in, row_owner, has_name, names}
 use Rattle.lf_base.specs.PlainState.{Row}
@@ -80,6 +80,9 @@ owner_is rows o v w e h = some_is v w (sym e ∙ h)
 
 pub owner_has : (rows : List Row) (o : ObjId) (w : Owner) → owner_in rows o ≡ Some w → has_row rows o ≡ true
 owner_has rows o w e = let t = row_of rows o w e in subst (λ n. has_row rows n ≡ true) t.name (mem_has t.row rows t.mem)
+
+pub no_owner : (rows : List Row) (o : ObjId) → has_row rows o ≡ false → owner_in rows o ≡ None
+no_owner rows o h = elim (owner_in rows o) as (λ u. owner_in rows o ≡ u → u ≡ None) [ None ↦ λ e. refl | Some w ↦ λ e. absurd (both_ways _ h (owner_has rows o w e)) ] refl
 
 pub row_there : (rows : List Row) (o : ObjId) → has_row rows o ≡ true → (x : Row) × (Member x rows × (x.name ≡ o))
 row_there rows o h = let r = any_Member (λ (x : Row). same_name x.name o) rows h in (r.0, (r.1.0, same_name_is (r.0).name o r.1.1))

@@ -1,36 +1,38 @@
 use Rattle.std.proofs.Common.{[], sym, ◌++◌, ◌∙◌, ◌∷◌}
 use Rattle.lf_base.specs.WriteResult.{put_field}
 use Rattle.lf_graph.specs.Cells.{cells_of, walked_keys}
+use Rattle.lf_graph.specs.ChainMaps.{heads_of}
+use Rattle.lf_graph.specs.Chains.{refield}
 use Rattle.lf_graph.specs.FlatRows.{chain_of}
 use Rattle.lf_graph.proofs.FieldTable.CellLists.{no_cell}
 use Rattle.lf_graph.proofs.FieldTable.FieldPairs.{fields_pushed}
 use Rattle.lf_graph.proofs.FlatStores.FlatFound.{list_here, row_is_there, seen_as, value_found}
-use Rattle.lf_graph.proofs.FlatStores.FlatSteps.{flat_refielded, rows_refielded, stored_named}
+use Rattle.lf_graph.proofs.FlatStores.FlatSteps.{flat_refielded, rows_refielded, stored_changed}
 use Rattle.lf_graph.proofs.flat_store.FlatStore.add_field.Goals as goal
 
-pub row-row-requires : goal.row-row-requires
-row-row-requires c = row_is_there (seen_as c.self.invariant c.self.view_is) c.args.o c.requires.there
+pub row-requires : goal.row-requires
+row-requires c = row_is_there (seen_as c.self.invariant c.self.view_is) c.args.o c.requires.there
 
 pub push_last-fields-requires-clause-new : goal.push_last-fields-requires-clause-new
 push_last-fields-requires-clause-new c =
-    no_cell (cells_of c.self.inside.cells c.args.o c.args.key) (sym (value_found (seen_as c.self.invariant c.self.view_is) c.args.o c.row-row.result c.row-row.ensures.row c.args.key) ∙ c.requires.new)
+    no_cell (cells_of c.self.inside.cells c.args.o c.args.key) (sym (value_found (seen_as c.self.invariant c.self.view_is) c.args.o c.row.result.now c.row.ensures c.args.key) ∙ c.requires.new)
 
 pub invariant_of-self : goal.invariant_of-self
 invariant_of-self c =
     let before = seen_as c.self.invariant c.self.view_is in
-    let r = c.row-row.result in
+    let r = c.row.result.now in
     let keys = walked_keys (cells_of c.self.inside.cells) c.args.o r.fields in
-    flat_refielded c.set.new.self c.push_last-fields.new.self before c.args.o r c.row-row.ensures.row (c.set.ensures.lists (chain_of c.self.inside.chains) c.self.invariant.chains) c.push_last-fields.ensures.others
-    c.push_last-fields.result (keys ++ c.args.key ∷ []) (c.push_last-fields.ensures.lists keys (list_here before c.args.o r c.row-row.ensures.row)) (stored_named _ _ r.name c.args.o _ c.row-row.ensures.named c.set.ensures.rows)
+    flat_refielded c.set_fields.new.self c.push_last-fields.new.self before c.args.o r c.row.ensures (c.set_fields.ensures.lists (chain_of c.self.inside.chains) c.self.invariant.chains) c.push_last-fields.ensures.others
+    c.push_last-fields.result (keys ++ c.args.key ∷ []) (c.push_last-fields.ensures.lists keys (list_here before c.args.o r c.row.ensures)) (stored_changed (heads_of c.self.inside.chains.rows) (heads_of c.set_fields.new.self.rows) c.args.o r (refield c.push_last-fields.result) c.row.ensures c.set_fields.ensures.rows)
 
 pub returns-clause-rows : goal.returns-clause-rows
 returns-clause-rows c =
     let before = seen_as c.self.invariant c.self.view_is in
-    let r = c.row-row.result in
+    let r = c.row.result.now in
     let keys = walked_keys (cells_of c.self.inside.cells) c.args.o r.fields in
-    let list = list_here before c.args.o r c.row-row.ensures.row in
-    rows_refielded c.set.new.self c.push_last-fields.new.self before c.args.o r c.row-row.ensures.row (c.set.ensures.lists (chain_of c.self.inside.chains) c.self.invariant.chains) c.push_last-fields.ensures.others
-    c.push_last-fields.result (keys ++ c.args.key ∷ []) (c.push_last-fields.ensures.lists keys list) (stored_named _ _ r.name c.args.o _ c.row-row.ensures.named c.set.ensures.rows)
+    let list = list_here before c.args.o r c.row.ensures in
+    rows_refielded c.set_fields.new.self c.push_last-fields.new.self before c.args.o r c.row.ensures (c.set_fields.ensures.lists (chain_of c.self.inside.chains) c.self.invariant.chains) c.push_last-fields.ensures.others
+    c.push_last-fields.result (keys ++ c.args.key ∷ []) (c.push_last-fields.ensures.lists keys list) (stored_changed (heads_of c.self.inside.chains.rows) (heads_of c.set_fields.new.self.rows) c.args.o r (refield c.push_last-fields.result) c.row.ensures c.set_fields.ensures.rows)
     (λ fields. put_field fields c.args.key c.args.v)
     (fields_pushed (cells_of c.self.inside.cells) (cells_of c.push_last-fields.new.self) c.args.o c.args.key c.args.v r.fields keys c.push_last-fields.ensures.value
-    (no_cell (cells_of c.self.inside.cells c.args.o c.args.key) (sym (value_found before c.args.o r c.row-row.ensures.row c.args.key) ∙ c.requires.new)) list)
+    (no_cell (cells_of c.self.inside.cells c.args.o c.args.key) (sym (value_found before c.args.o r c.row.ensures c.args.key) ∙ c.requires.new)) list)

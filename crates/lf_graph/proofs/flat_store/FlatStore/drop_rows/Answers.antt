@@ -11,7 +11,7 @@ pub loop-row-init : goal.loop-row-init
 loop-row-init c = no_row_dropped c.args.self.now.rows c.args.rows.now
 
 pub loop-row-preserved : goal.loop-row-preserved
-loop-row-preserved c = one_row_dropped c.args.self.now.rows c.loop-row.self.rows c.drop_row.new.self.rows c.args.rows.now c.loop-row.row-index c.row-item.result (slice_get_read c.args.rows.now (length c.args.rows.now) c.loop-row.row-index c.row-item.result refl (grind arith) c.row-item.is) c.loop-row.invariant c.drop_row.ensures.rows
+loop-row-preserved c = one_row_dropped c.args.self.now.rows c.loop-row.self.rows c.drop_if_there.new.self.rows c.args.rows.now c.loop-row.row-index c.row-item.result (slice_get_read c.args.rows.now (length c.args.rows.now) c.loop-row.row-index c.row-item.result refl (grind arith) c.row-item.is) c.loop-row.invariant c.drop_if_there.ensures.rows
 
 pub returns : goal.returns
 returns c = subst (λ l. SameByOwner c.loop-row.self.rows (without_rows c.args.self.now.rows (map (λ (r : PartRow). r.name) l))) (take_all c.loop-row.row-index c.args.rows.now (grind arith)) c.loop-row.invariant

@@ -8,5 +8,5 @@ row-row-requires g c = row_is_there (seen_as c.self.invariant c.self.view_is) c.
 
 pub returns-clause-field : goal.returns-clause-field
 returns-clause-field g c =
-    c.at.ensures (walked_keys (cells_of c.self.inside.cells) c.args.o c.row-row.result.fields) (list_here (seen_as c.self.invariant c.self.view_is) c.args.o c.row-row.result c.row-row.ensures.row)
-    ∙ ap (λ l. slice_get l c.args.at) (sym (fields_found (seen_as c.self.invariant c.self.view_is) c.args.o c.row-row.result c.row-row.ensures.row))
+    c.at.ensures (walked_keys (cells_of c.self.inside.cells) c.args.o c.row-row.result.now.fields) (list_here (seen_as c.self.invariant c.self.view_is) c.args.o c.row-row.result.now c.row-row.ensures)
+    ∙ ap (λ l. slice_get l c.args.at) (sym (fields_found (seen_as c.self.invariant c.self.view_is) c.args.o c.row-row.result.now c.row-row.ensures))

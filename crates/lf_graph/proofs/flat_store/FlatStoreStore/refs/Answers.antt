@@ -6,4 +6,4 @@ pub row-requires : goal.row-requires
 row-requires g c = row_is_there (seen_as c.self.invariant c.self.view_is) c.args.o c.requires.there
 
 pub returns-clause-refs : goal.returns-clause-refs
-returns-clause-refs g c = sym (refs_found (seen_as c.self.invariant c.self.view_is) c.args.o c.row.result c.row.ensures.row)
+returns-clause-refs g c = sym (refs_found (seen_as c.self.invariant c.self.view_is) c.args.o c.row.result.now c.row.ensures)

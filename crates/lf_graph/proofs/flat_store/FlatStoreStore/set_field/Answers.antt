@@ -46,4 +46,4 @@ returns-clause-rows g c =
     r.row.fields keys (c.set_value.ensures.lists r.row.fields keys list) (stored_same (heads_of c.self.inside.chains.rows) c.args.o r.row r.kept_is)
     (λ fields. put_field fields c.args.key c.args.v)
     (fields_replaced (cells_of c.self.inside.cells) (cells_of c.set_value.new.self) c.args.o c.args.key c.args.v r.row.fields keys c.set_value.ensures.value
-    (is_cell (cells_of c.self.inside.cells c.args.o c.args.key) c.in-Some.cell (sym c.in-Some.ensures)) list)
+    (is_cell (cells_of c.self.inside.cells c.args.o c.args.key) c.in-Some.cell.now (sym c.in-Some.ensures)) list)

@@ -1,17 +1,24 @@
-use Rattle.std.proofs.Common.{refl, subst, ◌-◌, ◌<◌}
+use Rattle.std.proofs.Common.{refl, ◌-◌, ◌<◌}
+use Rattle.lf_graph.specs.ChainMaps.{heads_of}
+use Rattle.lf_graph.specs.Chains.{recount}
 use Rattle.lf_graph.specs.FlatRows.{chain_of}
-use Rattle.lf_graph.proofs.FlatStores.FlatFound.{refs_found, row_is_there, seen_as}
-use Rattle.lf_graph.proofs.FlatStores.FlatSteps.{flat_recounted, rows_recounted, stored_named}
+use Rattle.lf_graph.proofs.FlatStores.FlatFound.{count_kept_is, seen_as, there}
+use Rattle.lf_graph.proofs.FlatStores.FlatSteps.{flat_recounted, rows_recounted, stored_changed}
 use Rattle.lf_graph.proofs.flat_store.FlatStoreStore.sub_ref.Goals as goal
 
-pub row-row-requires : goal.row-row-requires
-row-row-requires g c = row_is_there (seen_as c.self.invariant c.self.view_is) c.args.o c.requires.there
-
-pub overflow_sub-row : goal.overflow_sub-row
-overflow_sub-row g c = subst (λ n. 0 < n) (refs_found (seen_as c.self.invariant c.self.view_is) c.args.o c.row-row.result c.row-row.ensures.row) c.requires.above
+pub sub_ref-requires : goal.sub_ref-requires
+sub_ref-requires g c = count_kept_is (seen_as c.self.invariant c.self.view_is) (λ n. 0 < n) c.args.o c.requires.there c.requires.above
 
 pub invariant_of-self : goal.invariant_of-self
-invariant_of-self g c = flat_recounted c.set.new.self (seen_as c.self.invariant c.self.view_is) c.args.o c.row-row.result c.row-row.ensures.row (c.set.ensures.lists (chain_of c.self.inside.chains) c.self.invariant.chains) (c.row-row.result.refs - 1) (stored_named _ _ c.row-row.result.name c.args.o _ c.row-row.ensures.named c.set.ensures.rows)
+invariant_of-self g c =
+    let before = seen_as c.self.invariant c.self.view_is in
+    let r = there before c.args.o c.requires.there in
+    flat_recounted c.sub_ref.new.self before c.args.o r.row r.kept_is (c.sub_ref.ensures.lists (chain_of c.self.inside.chains) c.self.invariant.chains) (r.row.refs - 1)
+    (stored_changed (heads_of c.self.inside.chains.rows) (heads_of c.sub_ref.new.self.rows) c.args.o r.row (recount (λ n. n - 1)) r.kept_is c.sub_ref.ensures.rows)
 
 pub returns-clause-rows : goal.returns-clause-rows
-returns-clause-rows g c = rows_recounted c.set.new.self (seen_as c.self.invariant c.self.view_is) c.args.o c.row-row.result c.row-row.ensures.row (c.set.ensures.lists (chain_of c.self.inside.chains) c.self.invariant.chains) (c.row-row.result.refs - 1) (stored_named _ _ c.row-row.result.name c.args.o _ c.row-row.ensures.named c.set.ensures.rows) (λ n. n - 1) refl
+returns-clause-rows g c =
+    let before = seen_as c.self.invariant c.self.view_is in
+    let r = there before c.args.o c.requires.there in
+    rows_recounted c.sub_ref.new.self before c.args.o r.row r.kept_is (c.sub_ref.ensures.lists (chain_of c.self.inside.chains) c.self.invariant.chains) (r.row.refs - 1)
+    (stored_changed (heads_of c.self.inside.chains.rows) (heads_of c.sub_ref.new.self.rows) c.args.o r.row (recount (λ n. n - 1)) r.kept_is c.sub_ref.ensures.rows) (λ n. n - 1) refl

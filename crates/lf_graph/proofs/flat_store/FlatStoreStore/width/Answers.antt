@@ -6,4 +6,4 @@ pub row-requires : goal.row-requires
 row-requires g c = row_is_there (seen_as c.self.invariant c.self.view_is) c.args.o c.requires.there
 
 pub returns-clause-width : goal.returns-clause-width
-returns-clause-width g c = sym (width_found (seen_as c.self.invariant c.self.view_is) c.args.o c.row.result c.row.ensures.row)
+returns-clause-width g c = sym (width_found (seen_as c.self.invariant c.self.view_is) c.args.o c.row.result.now c.row.ensures)

@@ -1,21 +1,25 @@
+use Rattle.std.proofs.Common.{refl}
 use Rattle.lf_regions.proofs.KeptRegions.{flag_written, found_key, found_name, kept_order, write_keeps}
+use Rattle.lf_regions.proofs.Places.{has_place, place_is_key, same_places}
 use Rattle.lf_regions.proofs.table.RegionTable.set_owned.Goals as goal
 
-pub index-key-requires : goal.index-key-requires
-index-key-requires c = found_name c.self.inside.regions c.self.inside.index.entries c.self.invariant c.args.self.now c.self.view_is c.args.r c.requires
+pub place-key-requires : goal.place-key-requires
+place-key-requires c = has_place c.self.inside.regions c.self.inside.places c.self.inside.index.entries c.self.invariant c.args.r (found_name c.self.inside.regions c.self.inside.index.entries c.self.invariant.kept c.args.self.now c.self.view_is c.args.r c.requires)
 
 pub index_mut-requires : goal.index_mut-requires
-index_mut-requires c = found_key c.self.inside.regions c.self.inside.index.entries c.args.r c.index-key.result.now c.self.invariant c.index-key.ensures
+index_mut-requires c = found_key c.self.inside.regions c.self.inside.index.entries c.args.r c.place-key.result c.self.invariant.kept (place_is_key c.self.inside.regions c.self.inside.places c.self.inside.index.entries c.self.invariant c.args.r c.place-key.result c.place-key.ensures)
 
 pub invariant_of-self : goal.invariant_of-self
 invariant_of-self c =
-    write_keeps c.self.inside.regions c.self.inside.index.entries c.self.invariant c.args.self.now c.self.view_is c.args.r c.index-key.result.now c.index-key.ensures c.index_mut.result.now c.index_mut.ensures.value
-    c.index_mut.result.now.borrowed c.args.owned
+    same_places c.self.inside.regions c.self.inside.places c.self.inside.index.entries c.self.invariant _ c.self.inside.places (
+    write_keeps c.self.inside.regions c.self.inside.index.entries c.self.invariant.kept c.args.self.now c.self.view_is c.args.r c.place-key.result (place_is_key c.self.inside.regions c.self.inside.places c.self.inside.index.entries c.self.invariant c.args.r c.place-key.result c.place-key.ensures) c.index_mut.result.now c.index_mut.ensures.value
+    c.index_mut.result.now.borrowed c.args.owned)
+    (λ q. refl)
 
 pub returns-clause-set : goal.returns-clause-set
 returns-clause-set c =
-    flag_written c.self.inside.regions c.self.inside.index.entries c.self.invariant c.args.self.now c.self.view_is c.args.r c.index-key.result.now c.index-key.ensures c.index_mut.result.now c.index_mut.ensures.value
+    flag_written c.self.inside.regions c.self.inside.index.entries c.self.invariant.kept c.args.self.now c.self.view_is c.args.r c.place-key.result (place_is_key c.self.inside.regions c.self.inside.places c.self.inside.index.entries c.self.invariant c.args.r c.place-key.result c.place-key.ensures) c.index_mut.result.now c.index_mut.ensures.value
     c.args.owned
 
 pub returns-clause-rising : goal.returns-clause-rising
-returns-clause-rising c = kept_order _ _ (invariant_of-self c)
+returns-clause-rising c = kept_order _ _ ((invariant_of-self c).kept)
