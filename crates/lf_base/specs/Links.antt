@@ -88,17 +88,17 @@ module _ {N : Type 0} where
 
     -- xs is the whole list of a table of links: the links spell it, none of it comes twice, it begins and ends
     -- with these nodes, and its nodes are the members
-    pub record IsList (get : N → Option (Link N)) (front back : Option N) (member : N → Bool) (xs : List N) : Type 0 where
+    pub record IsList (get : N → Option (Link N)) (first_node last_node : Option N) (member : N → Bool) (xs : List N) : Type 0 where
       pub links : LinksSpell get None xs None
       pub differ : NodesDiffer xs
-      pub first : front ≡ head_or xs None
-      pub last : back ≡ last_or None xs
+      pub first : first_node ≡ head_or xs None
+      pub last : last_node ≡ last_or None xs
       pub members : (q : N) → has q xs ≡ member q
 
-  -- the first node of a list with x put last, where `front` was the first
-  abbrev pub front_with : N → Option N → Option N
-  front_with x None = Some x
-  front_with x (Some y) = Some y
+  -- the first node of a list with x put last, where `first_node` was the first
+  abbrev pub first_after_push : N → Option N → Option N
+  first_after_push x None = Some x
+  first_after_push x (Some y) = Some y
 
   -- the end of a list: it stays where there is a node beyond the one that goes, and else is its other neighbour
   abbrev pub or_else : Option N → Option N → Option N → Option N
@@ -106,9 +106,9 @@ module _ {N : Type 0} where
   or_else (Some x) end other = end
 
   -- the first node, where that of this link goes
-  abbrev pub front_without : Link N → Option N → Option N
-  front_without l front = or_else l.prev front l.next
+  abbrev pub first_after_removal : Link N → Option N → Option N
+  first_after_removal l first_node = or_else l.prev first_node l.next
 
   -- the last node, where that of this link goes
-  abbrev pub back_without : Link N → Option N → Option N
-  back_without l back = or_else l.next back l.prev
+  abbrev pub last_after_removal : Link N → Option N → Option N
+  last_after_removal l last_node = or_else l.next last_node l.prev

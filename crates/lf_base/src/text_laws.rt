@@ -13,7 +13,7 @@ pub fn texts_differ()
     ensures with_one { (texts : List Text) (text : Text) → TextsDiffer texts → TextsDiffer (with_text texts text) }
 {}
 
-/// A text that was added is at its place, and keeps it when others come behind it.
+/// A text that was added is at its place, and keeps it when others come after it.
 pub fn texts_keep_their_places()
     ensures found { (texts : List Text) (text : Text) → text_at (with_text texts text) (place_of texts text) ≡ text }
     ensures kept { (texts more : List Text) (text : Text) → list_any (bytes_eq text) texts ≡ true

@@ -8,7 +8,7 @@ use Rattle.lf_base.specs.declared.links.Link.{Link}
 use Rattle.lf_base.specs.declared.values.Key.{Key}
 use Rattle.lf_base.specs.declared.values.Value.{Value}
 use Rattle.lf_base.specs.declared.values.Value.TheVariants as value
-use Rattle.lf_base.specs.Links.{IsList, back_without, front_with, front_without, walk}
+use Rattle.lf_base.specs.Links.{IsList, last_after_removal, first_after_push, first_after_removal, walk}
 use Rattle.lf_base.specs.Names.{same_key, same_name}
 use Rattle.lf_graph.specs.declared.cells.TheConstants.{MOST_CELLS}
 use Rattle.lf_graph.specs.declared.cells.Cell.{Cell}
@@ -107,11 +107,11 @@ DropsCell old new o (Some key) = OnlyCellAt old new o key (λ _. None)
 
 -- the ends with one more key at the end
 abbrev pub field_ends_with : Key → FieldEnds → FieldEnds
-field_ends_with k t = record { first = front_with k t.first; last = Some k; width = t.width + 1 }
+field_ends_with k t = record { first = first_after_push k t.first; last = Some k; width = t.width + 1 }
 
 -- the ends without the key of that link
 abbrev pub field_ends_without : Link Key → FieldEnds → FieldEnds
-field_ends_without l t = record { first = front_without l t.first; last = back_without l t.last; width = t.width - 1 }
+field_ends_without l t = record { first = first_after_removal l t.first; last = last_after_removal l t.last; width = t.width - 1 }
 
 -- the keys of a row, by a walk from the first one
 abbrev pub walked_keys : CellsAt → ObjId → FieldEnds → List Key

@@ -5,7 +5,7 @@ use Rattle.std.specs.Bool.{Decides}
 use Rattle.std.specs.List.{slice_get}
 use Rattle.std.specs.Option.{option_map}
 use Rattle.lf_base.specs.declared.links.Link.{Link}
-use Rattle.lf_base.specs.Links.{NodesDiffer, link, head_or, last_or, LinksSpell, next_of, next_from, walk, to_next, to_prev, Lacks, LacksAt, relinked, unlinked, has, without, after, IsList, front_with, or_else, front_without, back_without}
+use Rattle.lf_base.specs.Links.{NodesDiffer, link, head_or, last_or, LinksSpell, next_of, next_from, walk, to_next, to_prev, Lacks, LacksAt, relinked, unlinked, has, without, after, IsList, first_after_push, or_else, first_after_removal, last_after_removal}
 
 pub or_none : (a b : Bool) → (a || b) ≡ false → (a ≡ false) × (b ≡ false)
 or_none true b e = cc
@@ -57,17 +57,17 @@ module _ {N : Type 0} where
   last_or_nil c [] = refl
   last_or_nil c (x ∷ xs) = last_or_nil (Some x) xs
 
-  front_pushed : (xs : List N) (x : N) → front_with x (head_or xs None) ≡ head_or (xs ++ x ∷ []) None
-  front_pushed [] x = refl
-  front_pushed (y ∷ xs) x = refl
+  first_pushed : (xs : List N) (x : N) → first_after_push x (head_or xs None) ≡ head_or (xs ++ x ∷ []) None
+  first_pushed [] x = refl
+  first_pushed (y ∷ xs) x = refl
 
-  front_cut : (xs ys : List N) (x : N) → or_else (last_or None xs) (head_or (xs ++ x ∷ ys) None) (head_or ys None) ≡ head_or (xs ++ ys) None
-  front_cut [] ys x = refl
-  front_cut (y ∷ xs) ys x = ap (λ t. or_else t (Some y) (head_or ys None)) (last_some y xs).1
+  first_cut : (xs ys : List N) (x : N) → or_else (last_or None xs) (head_or (xs ++ x ∷ ys) None) (head_or ys None) ≡ head_or (xs ++ ys) None
+  first_cut [] ys x = refl
+  first_cut (y ∷ xs) ys x = ap (λ t. or_else t (Some y) (head_or ys None)) (last_some y xs).1
 
-  back_cut : (xs ys : List N) (x : N) → or_else (head_or ys None) (last_or None (xs ++ x ∷ ys)) (last_or None xs) ≡ last_or None (xs ++ ys)
-  back_cut xs [] x = sym (last_or_nil None xs)
-  back_cut xs (y ∷ ys) x = last_or_append None xs x (y ∷ ys) ∙ sym (last_or_append None xs y ys)
+  last_cut : (xs ys : List N) (x : N) → or_else (head_or ys None) (last_or None (xs ++ x ∷ ys)) (last_or None xs) ≡ last_or None (xs ++ ys)
+  last_cut xs [] x = sym (last_or_nil None xs)
+  last_cut xs (y ∷ ys) x = last_or_append None xs x (y ∷ ys) ∙ sym (last_or_append None xs y ys)
 
   length_middle : (xs ys : List N) (x : N) → length (xs ++ x ∷ ys) ≡ suc (length (xs ++ ys))
   length_middle [] ys x = refl
@@ -220,15 +220,15 @@ module _ {N : Type 0} where
     middle_lacks x (y ∷ xs) ys d = (flipped y x (Lacks-right y xs (x ∷ ys) d.0).0, middle_lacks x xs ys d.1)
 
     record SplitAtNode (x : N) (xs : List N) : Type 0 where
-      front : List N
-      back : List N
-      is : xs ≡ front ++ x ∷ back
+      prefix : List N
+      rest : List N
+      is : xs ≡ prefix ++ x ∷ rest
 
     split : (x : N) (xs : List N) → has same x xs ≡ true → SplitAtNode x xs
     split x [] h = cc
     split x (y ∷ ys) h = elim (same x y) as (λ b. same x y ≡ b → (b || has same x ys) ≡ true → SplitAtNode x (y ∷ ys)) [
-      | true ↦ λ t _. record { front = []; back = ys; is = ap (λ z. z ∷ ys) (sym ((decides x y).0 t)) }
-      | false ↦ λ _ k. let s = split x ys k in record { front = y ∷ s.front; back = s.back; is = ap (λ t. y ∷ t) s.is }
+      | true ↦ λ t _. record { prefix = []; rest = ys; is = ap (λ z. z ∷ ys) (sym ((decides x y).0 t)) }
+      | false ↦ λ _ k. let s = split x ys k in record { prefix = y ∷ s.prefix; rest = s.rest; is = ap (λ t. y ∷ t) s.is }
     ] refl h
 
     LinksSpell-among : (get new : N → Option (Link N)) (b : Option N) (xs : List N) (a : Option N) → ((q : N) → has same q xs ≡ true → new q ≡ get q) → LinksSpell get b xs a → LinksSpell new b xs a
@@ -263,9 +263,9 @@ module _ {N : Type 0} where
     relinked_away get (Some x) f q h = relinked_other get x f q (h x refl)
 
     -- a list stays where the links of its nodes and its members do
-    pub IsList-kept : (get new : N → Option (Link N)) (front back : Option N) (member now : N → Bool) (xs : List N) → ((q : N) → member q ≡ true → new q ≡ get q) → ((q : N) → now q ≡ member q)
-        → IsList same get front back member xs → IsList same new front back now xs
-    IsList-kept get new front back member now xs links members old = record {
+    pub IsList-kept : (get new : N → Option (Link N)) (first_node last_node : Option N) (member now : N → Bool) (xs : List N) → ((q : N) → member q ≡ true → new q ≡ get q) → ((q : N) → now q ≡ member q)
+        → IsList same get first_node last_node member xs → IsList same new first_node last_node now xs
+    IsList-kept get new first_node last_node member now xs links members old = record {
       links = LinksSpell-among get new None xs None (λ q h. links q (sym (old.members q) ∙ h)) old.links;
       differ = old.differ;
       first = old.first;
@@ -273,20 +273,20 @@ module _ {N : Type 0} where
       members = λ q. old.members q ∙ sym (members q);
     }
 
-    pub IsList-same : (get new : N → Option (Link N)) (front back : Option N) (member now : N → Bool) (xs : List N) → ((q : N) → new q ≡ get q) → ((q : N) → now q ≡ member q)
-        → IsList same get front back member xs → IsList same new front back now xs
-    IsList-same get new front back member now xs links members old = IsList-kept get new front back member now xs (λ q _. links q) members old
+    pub IsList-same : (get new : N → Option (Link N)) (first_node last_node : Option N) (member now : N → Bool) (xs : List N) → ((q : N) → new q ≡ get q) → ((q : N) → now q ≡ member q)
+        → IsList same get first_node last_node member xs → IsList same new first_node last_node now xs
+    IsList-same get new first_node last_node member now xs links members old = IsList-kept get new first_node last_node member now xs (λ q _. links q) members old
 
     -- a node that isn't there is put last
-    pub IsList-pushed : (get new : N → Option (Link N)) (front back : Option N) (member now : N → Bool) (xs : List N) (x : N) → member x ≡ false
-        → new x ≡ Some (link back None) → ((q : N) → same x q ≡ false → new q ≡ relinked same get back (to_next (Some x)) q) → ((q : N) → now q ≡ cond (same x q) true (member q))
-        → IsList same get front back member xs → IsList same new (front_with x front) (Some x) now (xs ++ x ∷ [])
-    IsList-pushed get new front back member now xs x fresh here there members old =
+    pub IsList-pushed : (get new : N → Option (Link N)) (first_node last_node : Option N) (member now : N → Bool) (xs : List N) (x : N) → member x ≡ false
+        → new x ≡ Some (link last_node None) → ((q : N) → same x q ≡ false → new q ≡ relinked same get last_node (to_next (Some x)) q) → ((q : N) → now q ≡ cond (same x q) true (member q))
+        → IsList same get first_node last_node member xs → IsList same new (first_after_push x first_node) (Some x) now (xs ++ x ∷ [])
+    IsList-pushed get new first_node last_node member now xs x fresh here there members old =
         let absent : Lacks same x xs = Lacks-from_has x xs (old.members x ∙ fresh) in
         record {
           links = LinksSpell-pushed get new xs x old.differ absent old.links (here ∙ ap (λ t. Some (link t None)) old.last) (λ q n. there q n ∙ ap (λ t. relinked same get t (to_next (Some x)) q) old.last);
           differ = Differ-push xs x old.differ absent;
-          first = ap (front_with x) old.first ∙ front_pushed xs x;
+          first = ap (first_after_push x) old.first ∙ first_pushed xs x;
           last = sym (last_or_append None xs x []);
           members = λ q. has-append q xs (x ∷ []) ∙ (elim (same x q) as (λ b. same x q ≡ b → (has same q xs || (same q x || false)) ≡ cond b true (member q)) [
             | true ↦ λ t. ap (λ b. has same q xs || (b || false)) (ap (λ u. same u x) (sym ((decides x q).0 t)) ∙ itself x) ∙ or-true (has same q xs)
@@ -295,10 +295,10 @@ module _ {N : Type 0} where
         }
 
     -- a node between two parts of the list goes
-    cut_at : (get new : N → Option (Link N)) (front back : Option N) (member now : N → Bool) (xs ys : List N) (x : N) (l : Link N) → get x ≡ Some l
+    cut_at : (get new : N → Option (Link N)) (first_node last_node : Option N) (member now : N → Bool) (xs ys : List N) (x : N) (l : Link N) → get x ≡ Some l
         → ((q : N) → same x q ≡ false → new q ≡ unlinked same get l.prev l.next q) → ((q : N) → now q ≡ cond (same x q) false (member q))
-        → IsList same get front back member (xs ++ x ∷ ys) → IsList same new (front_without l front) (back_without l back) now (xs ++ ys)
-    cut_at get new front back member now xs ys x l is there members old =
+        → IsList same get first_node last_node member (xs ++ x ∷ ys) → IsList same new (first_after_removal l first_node) (last_after_removal l last_node) now (xs ++ ys)
+    cut_at get new first_node last_node member now xs ys x l is there members old =
         let e : Some l ≡ Some (link (last_or None xs) (head_or ys None)) = sym is ∙ LinksSpell-at get xs ys x old.links in
         let before : l.prev ≡ last_or None xs = cc in
         let beyond : l.next ≡ head_or ys None = cc in
@@ -307,8 +307,8 @@ module _ {N : Type 0} where
           links = LinksSpell-kept (unlinked same get (last_or None xs) (head_or ys None)) new None (xs ++ ys) None x lacks
               (λ q n. there q n ∙ (λ i. unlinked same get (before i) (beyond i) q)) (LinksSpell-unlinked get xs ys x old.differ old.links);
           differ = Differ-without xs ys x old.differ;
-          first = (λ i. or_else (before i) (old.first i) (beyond i)) ∙ front_cut xs ys x;
-          last = (λ i. or_else (beyond i) (old.last i) (before i)) ∙ back_cut xs ys x;
+          first = (λ i. or_else (before i) (old.first i) (beyond i)) ∙ first_cut xs ys x;
+          last = (λ i. or_else (beyond i) (old.last i) (before i)) ∙ last_cut xs ys x;
           members = λ q. (elim (same x q) as (λ b. same x q ≡ b → has same q (xs ++ ys) ≡ cond b false (member q)) [
             | true ↦ λ t. ap (λ u. has same u (xs ++ ys)) (sym ((decides x q).0 t)) ∙ has-from_Lacks x (xs ++ ys) lacks
             | false ↦ λ n. has-append q xs ys ∙ ap (λ b. has same q xs || (b || has same q ys)) (sym (flipped x q n)) ∙ sym (has-append q xs (x ∷ ys)) ∙ old.members q
@@ -316,30 +316,30 @@ module _ {N : Type 0} where
         }
 
     -- a node of the list goes
-    pub IsList-unlinked : (get new : N → Option (Link N)) (front back : Option N) (member now : N → Bool) (xs : List N) (x : N) (l : Link N) → member x ≡ true → get x ≡ Some l
+    pub IsList-unlinked : (get new : N → Option (Link N)) (first_node last_node : Option N) (member now : N → Bool) (xs : List N) (x : N) (l : Link N) → member x ≡ true → get x ≡ Some l
         → ((q : N) → same x q ≡ false → new q ≡ unlinked same get l.prev l.next q) → ((q : N) → now q ≡ cond (same x q) false (member q))
-        → IsList same get front back member xs → IsList same new (front_without l front) (back_without l back) now (without same x xs)
-    IsList-unlinked get new front back member now xs x l there is links members old =
+        → IsList same get first_node last_node member xs → IsList same new (first_after_removal l first_node) (last_after_removal l last_node) now (without same x xs)
+    IsList-unlinked get new first_node last_node member now xs x l there is links members old =
         let s = split x xs (old.members x ∙ there) in
-        let was : IsList same get front back member (s.front ++ x ∷ s.back) = subst (IsList same get front back member) s.is old in
-        subst (IsList same new (front_without l front) (back_without l back) now) (sym (ap (without same x) s.is ∙ without-middle x s.front s.back was.differ))
-        (cut_at get new front back member now s.front s.back x l is links members was)
+        let was : IsList same get first_node last_node member (s.prefix ++ x ∷ s.rest) = subst (IsList same get first_node last_node member) s.is old in
+        subst (IsList same new (first_after_removal l first_node) (last_after_removal l last_node) now) (sym (ap (without same x) s.is ∙ without-middle x s.prefix s.rest was.differ))
+        (cut_at get new first_node last_node member now s.prefix s.rest x l is links members was)
 
     -- the last node is a member
-    pub IsList-end : (get : N → Option (Link N)) (front back : Option N) (member : N → Bool) (xs : List N) (x : N) → IsList same get front back member xs → back ≡ Some x → member x ≡ true
-    IsList-end get front back member xs x old e = sym (old.members x) ∙ has-end xs x (sym old.last ∙ e)
+    pub IsList-end : (get : N → Option (Link N)) (first_node last_node : Option N) (member : N → Bool) (xs : List N) (x : N) → IsList same get first_node last_node member xs → last_node ≡ Some x → member x ≡ true
+    IsList-end get first_node last_node member xs x old e = sym (old.members x) ∙ has-end xs x (sym old.last ∙ e)
 
     -- the neighbours of a member are members
-    pub IsList-neighbours : (get : N → Option (Link N)) (front back : Option N) (member : N → Bool) (xs : List N) (x : N) (l : Link N) → member x ≡ true → get x ≡ Some l
-        → IsList same get front back member xs → (q : N) → (l.prev ≡ Some q → member q ≡ true) × (l.next ≡ Some q → member q ≡ true)
-    IsList-neighbours get front back member xs x l there is old q =
+    pub IsList-neighbours : (get : N → Option (Link N)) (first_node last_node : Option N) (member : N → Bool) (xs : List N) (x : N) (l : Link N) → member x ≡ true → get x ≡ Some l
+        → IsList same get first_node last_node member xs → (q : N) → (l.prev ≡ Some q → member q ≡ true) × (l.next ≡ Some q → member q ≡ true)
+    IsList-neighbours get first_node last_node member xs x l there is old q =
         let s = split x xs (old.members x ∙ there) in
-        let e : Some l ≡ Some (link (last_or None s.front) (head_or s.back None)) = sym is ∙ LinksSpell-at get s.front s.back x (subst (λ t. LinksSpell get None t None) s.is old.links) in
-        let before : l.prev ≡ last_or None s.front = cc in
-        let beyond : l.next ≡ head_or s.back None = cc in
-        let among : member q ≡ (has same q s.front || (same q x || has same q s.back)) = sym (old.members q) ∙ ap (has same q) s.is ∙ has-append q s.front (x ∷ s.back) in (
-          λ p. among ∙ ap (λ b. b || (same q x || has same q s.back)) (has-end s.front q (sym before ∙ p)),
-          λ n. among ∙ ap (λ b. has same q s.front || (same q x || b)) (has-head s.back q (sym beyond ∙ n)) ∙ ap (λ b. has same q s.front || b) (or-true (same q x)) ∙ or-true (has same q s.front),
+        let e : Some l ≡ Some (link (last_or None s.prefix) (head_or s.rest None)) = sym is ∙ LinksSpell-at get s.prefix s.rest x (subst (λ t. LinksSpell get None t None) s.is old.links) in
+        let before : l.prev ≡ last_or None s.prefix = cc in
+        let beyond : l.next ≡ head_or s.rest None = cc in
+        let among : member q ≡ (has same q s.prefix || (same q x || has same q s.rest)) = sym (old.members q) ∙ ap (has same q) s.is ∙ has-append q s.prefix (x ∷ s.rest) in (
+          λ p. among ∙ ap (λ b. b || (same q x || has same q s.rest)) (has-end s.prefix q (sym before ∙ p)),
+          λ n. among ∙ ap (λ b. has same q s.prefix || (same q x || b)) (has-head s.rest q (sym beyond ∙ n)) ∙ ap (λ b. has same q s.prefix || b) (or-true (same q x)) ∙ or-true (has same q s.prefix),
         )
 
     LinksSpell-after : (get : N → Option (Link N)) (b : Option N) (xs : List N) (x : N) (l : Link N) → LinksSpell get b xs None → has same x xs ≡ true → get x ≡ Some l → l.next ≡ after same x xs
@@ -350,25 +350,25 @@ module _ {N : Type 0} where
     ] refl h
 
     -- what comes after a node of the list
-    pub IsList-after : (get : N → Option (Link N)) (front back : Option N) (member : N → Bool) (xs : List N) (x : N) (l : Link N) → member x ≡ true → get x ≡ Some l
-        → IsList same get front back member xs → l.next ≡ after same x xs
-    IsList-after get front back member xs x l there is old = LinksSpell-after get None xs x l old.links (old.members x ∙ there) is
+    pub IsList-after : (get : N → Option (Link N)) (first_node last_node : Option N) (member : N → Bool) (xs : List N) (x : N) (l : Link N) → member x ≡ true → get x ≡ Some l
+        → IsList same get first_node last_node member xs → l.next ≡ after same x xs
+    IsList-after get first_node last_node member xs x l there is old = LinksSpell-after get None xs x l old.links (old.members x ∙ there) is
 
     after-lacking : (x : N) (xs : List N) → Lacks same x xs → after same x xs ≡ None
     after-lacking x [] l = refl
     after-lacking x (y ∷ ys) l = ap (λ b. cond b (head_or ys None) (after same x ys)) l.0 ∙ after-lacking x ys l.1
 
     -- nothing comes after a node that isn't there
-    pub IsList-after_none : (get : N → Option (Link N)) (front back : Option N) (member : N → Bool) (xs : List N) (x : N) → member x ≡ false → IsList same get front back member xs → after same x xs ≡ None
-    IsList-after_none get front back member xs x gone old = after-lacking x xs (Lacks-from_has x xs (old.members x ∙ gone))
+    pub IsList-after_none : (get : N → Option (Link N)) (first_node last_node : Option N) (member : N → Bool) (xs : List N) (x : N) → member x ≡ false → IsList same get first_node last_node member xs → after same x xs ≡ None
+    IsList-after_none get first_node last_node member xs x gone old = after-lacking x xs (Lacks-from_has x xs (old.members x ∙ gone))
 
     -- a walk from the first node is the list
-    pub IsList-walk : (get : N → Option (Link N)) (front back : Option N) (member : N → Bool) (xs : List N) (n : ℕ) → length xs ≤ n → IsList same get front back member xs → walk n get front ≡ xs
-    IsList-walk get front back member xs n few old = ap (walk n get) old.first ∙ walk-LinksSpell n get None xs old.links few
+    pub IsList-walk : (get : N → Option (Link N)) (first_node last_node : Option N) (member : N → Bool) (xs : List N) (n : ℕ) → length xs ≤ n → IsList same get first_node last_node member xs → walk n get first_node ≡ xs
+    IsList-walk get first_node last_node member xs n few old = ap (walk n get) old.first ∙ walk-LinksSpell n get None xs old.links few
 
     -- the node at the next place
-    pub IsList-step : (get : N → Option (Link N)) (front back : Option N) (member : N → Bool) (xs : List N) (i : ℕ) → IsList same get front back member xs → slice_get xs (i + 1) ≡ next_from get (slice_get xs i)
-    IsList-step get front back member xs i old =
+    pub IsList-step : (get : N → Option (Link N)) (first_node last_node : Option N) (member : N → Bool) (xs : List N) (i : ℕ) → IsList same get first_node last_node member xs → slice_get xs (i + 1) ≡ next_from get (slice_get xs i)
+    IsList-step get first_node last_node member xs i old =
         let e : i + 1 ≡ suc i = omega arith in
         ap (slice_get xs) e ∙ LinksSpell-step get None xs i old.links
 
@@ -376,8 +376,8 @@ module _ {N : Type 0} where
     pub length-without : (x : N) (xs : List N) → NodesDiffer same xs → has same x xs ≡ true → length xs ≡ suc (length (without same x xs))
     length-without x xs d h =
         let s = split x xs h in
-        let e : without same x xs ≡ s.front ++ s.back = ap (without same x) s.is ∙ without-middle x s.front s.back (subst (NodesDiffer same) s.is d) in
-        ap length s.is ∙ length_middle s.front s.back x ∙ sym (ap (λ t. suc (length t)) e)
+        let e : without same x xs ≡ s.prefix ++ s.rest = ap (without same x) s.is ∙ without-middle x s.prefix s.rest (subst (NodesDiffer same) s.is d) in
+        ap length s.is ∙ length_middle s.prefix s.rest x ∙ sym (ap (λ t. suc (length t)) e)
 
     -- the node at a place is in the list
     pub has-at : (xs : List N) (i : ℕ) (x : N) → slice_get xs i ≡ Some x → has same x xs ≡ true
@@ -393,17 +393,17 @@ module _ {N : Type 0} where
     relinked-agree get new (Some x) f q h = ap (λ t. cond (same x q) (option_map f t) t) h
 
     -- what is left of a list from a node on, where all before it are gone
-    pub record IsRest (get : N → Option (Link N)) (front : Option N) (member : N → Bool) (xs : List N) : Type 0 where
+    pub record IsRest (get : N → Option (Link N)) (first_node : Option N) (member : N → Bool) (xs : List N) : Type 0 where
       pub before : Option N
       pub links : LinksSpell get before xs None
       pub differ : NodesDiffer same xs
-      pub first : front ≡ head_or xs None
+      pub first : first_node ≡ head_or xs None
       pub members : (q : N) → has same q xs ≡ member q
 
     -- the first node of the rest goes
-    pub IsRest-dropped : (get new : N → Option (Link N)) (front : Option N) (member now : N → Bool) (x : N) (xs : List N) → ((q : N) → same x q ≡ false → new q ≡ get q)
-        → ((q : N) → now q ≡ cond (same x q) false (member q)) → IsRest get front member (x ∷ xs) → IsRest new (next_from get front) now xs
-    IsRest-dropped get new front member now x xs links members old = record {
+    pub IsRest-dropped : (get new : N → Option (Link N)) (first_node : Option N) (member now : N → Bool) (x : N) (xs : List N) → ((q : N) → same x q ≡ false → new q ≡ get q)
+        → ((q : N) → now q ≡ cond (same x q) false (member q)) → IsRest get first_node member (x ∷ xs) → IsRest new (next_from get first_node) now xs
+    IsRest-dropped get new first_node member now x xs links members old = record {
       before = Some x;
       links = LinksSpell-kept get new (Some x) xs None x old.differ.0 links old.links.1;
       differ = old.differ.1;

@@ -36,7 +36,7 @@ text_at-place_of texts text there =
     unwrap_or-slice_get texts (place_of texts text) []
     ∙ sym (bytes_eq_same text (get_or texts (place_of texts text) []) (passes_at_first (bytes_eq text) texts [] (place_of_within texts text there)))
 
--- what is there stays there, at its place, when texts come behind it
+-- what is there stays there, at its place, when texts come after it
 pub list_any_grows : (texts more : List Text) (text : Text) → list_any (bytes_eq text) texts ≡ true → list_any (bytes_eq text) (texts ++ more) ≡ true
 list_any_grows texts more text there = list_any-append (bytes_eq text) texts more ∙ ap (λ b. b || list_any (bytes_eq text) more) there
 

@@ -10,7 +10,7 @@ use Rattle.lf_base.specs.declared.links.Link.{Link}
 use Rattle.lf_graph.specs.declared.stored_row.Linked.{Linked}
 use Rattle.lf_graph.specs.declared.stored_row.StoredRow.{StoredRow}
 use Rattle.lf_graph.specs.declared.ends.Ends.{Ends}
-use Rattle.lf_base.specs.Links.{IsList, after, front_with, has, head_or, link, or_else, relinked, to_next, to_prev, unlinked, without}
+use Rattle.lf_base.specs.Links.{IsList, after, first_after_push, has, head_or, link, or_else, relinked, to_next, to_prev, unlinked, without}
 use Rattle.lf_graph.specs.Chains.{HeadsAt, Relinks, is_this_owner, link_at, linked_owner_at, owner_ends_with, owner_ends_without, owner_of_head, row_of_head}
 use Rattle.lf_graph.specs.Chains.{first_of, last_of, IsChain, AreChains}
 use Rattle.lf_graph.proofs.Stores.Reordered.{same_owner_is, same_owner_itself}
@@ -25,7 +25,7 @@ chain_at : (m : HeadsAt) (e : Owner → Option Ends) (w : Owner) (xs : List ObjI
     → IsList same_name (link_at m) first last (λ q. is_this_owner w (linked_owner_at m q)) xs → IsChain m e w xs
 chain_at m e w xs f l c = record { links = c.links; differ = c.differ; first = f ∙ c.first; last = l ∙ c.last; members = c.members }
 
-first_with : (t : Option Ends) (o : ObjId) → first_of (owner_ends_with o t) ≡ front_with o (first_of t)
+first_with : (t : Option Ends) (o : ObjId) → first_of (owner_ends_with o t) ≡ first_after_push o (first_of t)
 first_with None o = refl
 first_with (Some t) o = refl
 

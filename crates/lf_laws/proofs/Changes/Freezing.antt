@@ -18,7 +18,7 @@ use Rattle.lf_base.specs.Sets.{Differ, Member}
 use Rattle.lf_base.specs.WellFormed.{Leads, WellFormed, all_cowns, all_names, all_values, content_values, field_values, from_content, from_near, from_row, may_lead, own_cowns, slot_values}
 use Rattle.lf_laws.proofs.Rows.RowsByName.{Distinct, row_of, mem_has, distinct_sub, has_append, row_there, owner_there, differ_apart, differ_rows, Member_has_name, same_row}
 use Rattle.lf_base.proofs.ListLemmas.Sublists.{Sub, sub_all, sub_filter, sub_within, count_sub, differ_sub, order_sub, sub_append, sub_flat_map, sub_map}
-use Rattle.std.proofs.lemmas.Bool.{and_from, and_parts, both_ways, false_from_ne_true, not-true, or_left, or_from}
+use Rattle.std.proofs.lemmas.Bool.{and_from, and_parts, both_ways, false_from_ne_true, not-true, or_left, or_from, or_parts}
 use Rattle.lf_laws.proofs.Rows.EdgeSources.{at_content, at_frozen, at_row, at_slot, edge_begins}
 use Rattle.lf_base.proofs.ListLemmas.Tests.{none_count}
 use Rattle.lf_laws.proofs.Rows.InsertedRows.{RowsApart, all_inserted, all_order, differ_all, distinct_frozen, has_all, has_frozen}
@@ -102,11 +102,6 @@ module _ (s : State) (v : Value) (t : WellFormed s) where
 
   not_frozen : (o : ObjId) → gone o ≡ true → has_name (names s.given ++ names s.own) o ≡ false
   not_frozen o e = false_from_ne_true _ (λ h. differ_apart (names s.rows) (names s.given ++ names s.own) t.names_differ o (has_names s.rows o ∙ gone_row o e) h)
-
-  or_parts : (a b : Bool) → (a || b) ≡ false → (a ≡ false) × (b ≡ false)
-  or_parts false false e = (refl, refl)
-  or_parts true b e = cc
-  or_parts false true e = cc
 
   not_given : (o : ObjId) → gone o ≡ true → has_name (names s.given) o ≡ false
   not_given o e = (or_parts _ _ (sym (has_append (names s.given) (names s.own) o) ∙ not_frozen o e)).0

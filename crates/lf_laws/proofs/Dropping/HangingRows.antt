@@ -18,7 +18,7 @@ use Rattle.lf_base.specs.WellFormed.{from_row}
 use Rattle.lf_laws.proofs.Rows.OwnerTests.{in_region, local_at_is, local_is, other_is}
 use Rattle.lf_laws.proofs.Rows.RowsByName.{row_of, mem_has, sub_same, row_there, owner_has, owner_mem, same_row}
 use Rattle.lf_base.proofs.ListLemmas.Sublists.{sub_all, sub_shrink}
-use Rattle.lf_base.proofs.ListLemmas.Tests.{or_map, some_is}
+use Rattle.lf_base.proofs.ListLemmas.Tests.{by_test, or_map, some_is}
 use Rattle.std.proofs.lemmas.Bool.{and_from, and_parts, not_from_false, both_ways, false_from_ne_true, not-true, or_left, or_cases, true_from_ne_false}
 use Rattle.lf_base.proofs.ListLemmas.LeastSets.{JoinsMore, least_closed}
 use Rattle.lf_laws.proofs.Rows.RowEdges.{EdgeRow, edge_in, edge_row, row_edge, to_local, to_region}
@@ -167,10 +167,6 @@ module _ (s : State) (g : RowsInPlace s) (w : List Suspect) where
     not_led x m h y k t = not_hung x m h (ap (λ b. list_any (λ u. is_object u x.name) w || b)
         (or_left _ _ (Member_any (leads_row x.name) y hung k (Member_any (λ p. same_name p x.name) x.name (field_targets y.fields) t (same_name_itself x.name)))) ∙ or-true _)
 
-    by_either : (a : Bool) {P : Type 0} → (a ≡ true → P) → (a ≡ false → P) → P
-    by_either true f h = f refl
-    by_either false f h = h refl
-
     hung_row : (y : Row) → Member y s.rows → has_row hung y.name ≡ true → Member y hung
     hung_row y m e = let t = row_there hung y.name e in subst (λ z. Member z hung) (same_row s.rows g.distinct t.0 y (hung_hangs t.0 t.1.0).mem m t.1.1) t.1.0
 
@@ -184,8 +180,8 @@ module _ (s : State) (g : RowsInPlace s) (w : List Suspect) where
           | inl k ↦ Member_left t.0 (slot_edges s.slots) (rows_edges rows) k
           | inr k ↦ let y = edge_row s.rows t.0 k in
               Member_right t.0 (slot_edges s.slots) (rows_edges rows) (row_edge rows y.row t.0
-              (by_either (kept_has_name (y.row).name) (λ z. up y.row (kept_row s g y.row y.mem z))
-              (λ z. by_either (has_row hung (y.row).name)
+              (by_test (kept_has_name (y.row).name) (λ z. up y.row (kept_row s g y.row y.mem z))
+              (λ z. by_test (has_row hung (y.row).name)
               (λ q. absurd (not_led x m h y.row (hung_row y.row y.mem q) (subst (λ n. Member n (field_targets (y.row).fields)) to y.to)))
               (λ q. f y.row y.mem (z, q) (subst (λ n. from_row (Some ((y.row).owner)) n (Some v) ≡ true) to (source s g t.0 y v (ap (owner_in s.rows) to ∙ own))))))
               y.from y.to)
@@ -298,8 +294,8 @@ module _ (s : State) (g : RowsInPlace s) (w : List Suspect) where
       owner_left : (e : Edge) → (x : EdgeRow s.rows e) → (is_owning s.rows e.from r && same_name e.to r) ≡ true → (q : ObjId) → owner_in s.rows (x.row).name ≡ Some (In q) → same_name q r ≡ false → (a b : Bool) → kept_has_name q ≡ a → region_hung hung q ≡ b → (owns s q r ≡ true) × (region_left q ≡ true)
       owner_left e x p q own d true b k y =
           let at : (x.row).owner ≡ In q = some_is ((x.row).owner) (In q) (sym (owner_mem s.rows g.distinct x.row x.mem) ∙ own) in
-          by_either (has_row (kept_rows s) (x.row).name) (λ i. absurd (held_by_row e x p i))
-          (λ i. by_either (has_row hung (x.row).name)
+          by_test (has_row (kept_rows s) (x.row).name) (λ i. absurd (held_by_row e x p i))
+          (λ i. by_test (has_row hung (x.row).name)
           (λ j. absurd (not_entered x.row (hung_row x.row x.mem j) (enters_by r x.row e.to x.to (subst (λ m. owner_in s.rows m ≡ Some (In r)) (sym (same_name_is e.to r (and_parts (is_owning s.rows e.from r) _ p).1)) h))))
           (λ j. absurd (no_inner q k x.row x.mem at (i, j))))
       owner_left e x p q own d false true k y =
@@ -341,9 +337,9 @@ module _ (s : State) (g : RowsInPlace s) (w : List Suspect) where
                   | inr m ↦
                       let x = edge_row s.rows t.0 m in
                       let own = local_at_is (owner_in s.rows (x.row).name) (ap (is_borrower s.rows) (sym x.from) ∙ p.0) in
-                      by_either (has_row (kept_rows s) (x.row).name)
+                      by_test (has_row (kept_rows s) (x.row).name)
                       (λ i. held (Member_right t.0 (slot_edges s.slots) (rows_edges (kept_rows s)) (row_edge (kept_rows s) x.row t.0 (kept_row s g x.row x.mem i) x.from x.to)))
-                      (λ i. by_either (has_row hung (x.row).name)
+                      (λ i. by_test (has_row hung (x.row).name)
                       (λ j. not_entered x.row (hung_row x.row x.mem j) (enters_by r x.row (t.0).to x.to (in_region r (owner_in s.rows (t.0).to) p.1)))
                       (λ j. no_local x.row x.mem (some_is ((x.row).owner) Local (sym (owner_mem s.rows g.distinct x.row x.mem) ∙ own)) (i, j)))
                 ])
@@ -364,8 +360,8 @@ module _ (s : State) (g : RowsInPlace s) (w : List Suspect) where
       no_left x m Local e h = no_local x m e h
       no_left x m (In r) e h =
           let own : owner_in s.rows x.name ≡ Some (In r) = owner_mem s.rows g.distinct x m ∙ ap Some e in
-          by_either (kept_has_name r) (λ k. no_inner r k x m e h)
-          (λ k. by_either (region_hung hung r)
+          by_test (kept_has_name r) (λ k. no_inner r k x m e h)
+          (λ k. by_test (region_hung hung r)
           (λ y. not_hung x m h (ap (λ b. list_any (λ u. is_object u x.name) w || b) (ap (λ b. list_any (leads_row x.name) hung || b) (ap (owner_hung hung) e ∙ y) ∙ or-true _) ∙ or-true _))
           (λ y. no_top r (tops_mem r (g.bridge x.name r own) (and_from _ _ (not_from_false _ k) (not_from_false _ y)))))
       no_left x m Frozen e h =
@@ -378,7 +374,7 @@ module _ (s : State) (g : RowsInPlace s) (w : List Suspect) where
       pub suspected_hang : AllHang s w
       suspected_hang o must =
           let t = row_there s.rows o must.here in
-          by_either (has_row hung o)
+          by_test (has_row hung o)
           (λ e. let x = row_there hung o e in subst (Hangs s w) x.1.1 (hung_hangs x.0 x.1.0).hangs)
           (λ e. absurd (no_left t.0 t.1.0 (t.0).owner refl (ap (has_row (kept_rows s)) t.1.1 ∙ must.goes, ap (has_row hung) t.1.1 ∙ e)))
 

@@ -18,7 +18,7 @@ use Rattle.lf_base.specs.WellFormed.{from_content, from_near, from_row, may_lead
 use Rattle.lf_laws.proofs.Rows.RowsByName.{Distinct, mem_has, sub_same, owner_there}
 use Rattle.lf_base.proofs.ListLemmas.Sublists.{sub_filter, sub_shrink, sub_then}
 use Rattle.std.proofs.lemmas.Bool.{and_from, and_parts, not_from_false, both_ways, false_from_ne_true, not-true, or_left}
-use Rattle.lf_base.proofs.ListLemmas.Tests.{any_weaker, or_map}
+use Rattle.lf_base.proofs.ListLemmas.Tests.{any_weaker, by_test, or_map}
 use Rattle.lf_laws.proofs.Dropping.HangingRows.{settled}
 use Rattle.lf_laws.proofs.Rows.RowEdges.{edge_row, field_is}
 use Rattle.lf_laws.proofs.Dropping.KeptRows.{kept_in, kept_has, kept_meets}
@@ -245,10 +245,6 @@ module _ (s : State) (g : RowsInPlace s) (gone : ObjId → Bool) (c : CanGo s go
   later u new w o p n (inl e) = absurd (both_ways _ n (subst (Spent gone) e p))
   later u new w o p n (inr m) = Member_right (Object o) new w m
 
-  by_either : (a : Bool) {P : Type 0} → (a ≡ true → P) → (a ≡ false → P) → P
-  by_either true f h = f refl
-  by_either false f h = h refl
-
   watch_later : (u : Suspect) (new w : List Suspect) (r : ObjId) → Spent gone u → gone r ≡ false → Bare s r → WatchedBy s (u ∷ w) r → WatchedBy (without s gone) (new ++ w) r
   watch_later u new w r p n b (Region q, (inl e, same)) = absurd (both_ways _ (ap gone same ∙ n) (subst (Spent gone) e p))
   watch_later u new w r p n b (Region q, (inr m, same)) = (Region q, (Member_right (Region q) new w m, same))
@@ -266,14 +262,14 @@ module _ (s : State) (g : RowsInPlace s) (gone : ObjId → Bool) (c : CanGo s go
   pub watched_without : (u : Suspect) (new w : List Suspect) → Spent gone u → Renewed s gone new → Watched s (u ∷ w) → Watched (without s gone) (new ++ w)
   watched_without u new w p n h = record {
     locals = λ o e k. let t = owner_old s.rows gone o Local e in
-        by_either (points s.rows s o) (λ z. Member_left (Object o) new w (n.locals o e z k)) (λ z. later u new w o p t.0 (h.locals o t.1 z));
+        by_test (points s.rows s o) (λ z. Member_left (Object o) new w (n.locals o e z k)) (λ z. later u new w o p t.0 (h.locals o t.1 z));
     regions = λ r e b. let t = owner_old s.rows gone r (In r) e in
         elim (is_bare r (is_owned_by s.rows s r) (points_into s.rows s r) refl refl) [
           | inl z ↦ watch_later u new w r p t.0 z (h.regions r t.1 z)
           | inr z ↦ watch_new new w r (n.regions r e z b)
         ];
     inners = λ o r e d k z. let t = owner_old s.rows gone o (In r) e in
-        by_either (points s.rows s o) (λ y. Member_left (Object o) new w (n.inners o r e d y z)) (λ y. later u new w o p t.0 (h.inners o r t.1 d (subst (λ l. has_row l r ≡ true) kept_without k) y));
+        by_test (points s.rows s o) (λ y. Member_left (Object o) new w (n.inners o r e d y z)) (λ y. later u new w o p t.0 (h.inners o r t.1 d (subst (λ l. has_row l r ≡ true) kept_without k) y));
   }
 
 -- a suspect that has a justification is forgotten

@@ -18,6 +18,7 @@ use Rattle.lf_base.specs.WalkCounts.{is_borrower}
 use Rattle.lf_base.specs.WellFormed.{WellFormed}
 use Rattle.lf_base.proofs.ListLemmas.Filters.{Member_filter, Member_of_filter}
 use Rattle.lf_base.proofs.ListLemmas.Members.{Member_any, Member_left, Member_of_append, Member_right, Within, Within_append, Within_flat_map, any_Member, any_more}
+use Rattle.lf_base.proofs.ListLemmas.Tests.{by_test}
 use Rattle.lf_base.proofs.NameLemmas.SameNames.{same_name_is, same_name_itself}
 use Rattle.lf_laws.proofs.Dropping.KeptRows.{joined_has, kept_in, kept_stays}
 use Rattle.lf_laws.proofs.Dropping.KeptState.{frozen_leads_on, lost, lost_can_go}
@@ -39,10 +40,6 @@ pub record AmongKept (s t : State) (gone : ObjId → Bool) : Type 0 where
   pub edges : (e : Edge) → Member e (edges t) → gone e.to ≡ true → Member e (edges s)
   pub into : (o r : ObjId) → gone r ≡ true → owner_in t.rows o ≡ Some (In r) → owner_in s.rows o ≡ Some (In r)
   pub mutable : (o : ObjId) → gone o ≡ true → (has_row t.given o || has_row t.own o) ≡ true → ⊥
-
-by_test : (a : Bool) {P : Type 0} → (a ≡ true → P) → (a ≡ false → P) → P
-by_test true f h = f refl
-by_test false f h = h refl
 
 module _ (s : State) (w : WellFormed s) where
   abbrev gone : ObjId → Bool

@@ -15,7 +15,7 @@ use Rattle.lf_base.specs.PlainState.{Row}
 use Rattle.lf_base.specs.Sets.{Differ, InOrder, Member}
 use Rattle.lf_base.specs.WellFormed.{field_values}
 use Rattle.lf_laws.proofs.Rows.RowsByName.{Distinct, has_append, mem_has}
-use Rattle.lf_base.proofs.ListLemmas.Tests.{any_none, none_any, or_swap}
+use Rattle.lf_base.proofs.ListLemmas.Tests.{any_none, none_any}
 use Rattle.std.proofs.lemmas.Bool.{both_ways, false_from_ne_true, or_left, or_from}
 use Rattle.lf_base.proofs.ListLemmas.Members.{Member_left, Member_of_append, Member_right, Member_flat_map, Member_map, Member_of_flat_map, Member_of_map}
 use Rattle.std.proofs.Math.Bool.{or-true, or_assoc}

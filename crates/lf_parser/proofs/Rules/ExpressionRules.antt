@@ -1,6 +1,7 @@
 -- Each rule of an expression has its properties, where the rules one level deeper have theirs.
-use Rattle.std.proofs.Common.{◌≡◌, ℕ, ◌<◌, ◌≤◌, List, [], ◌∷◌, length, Option, Some, Bool, true, false, refl, sym, ap, ◌∙◌, arith, ◌⊎◌, inl, inr}
+use Rattle.std.proofs.Common.{◌≡◌, ℕ, ◌<◌, ◌≤◌, List, [], ◌∷◌, length, Option, Some, Bool, true, false, refl, sym, ◌∙◌, arith, ◌⊎◌, inl, inr}
 use Rattle.std.specs.Prelude.{◌||◌}
+use Rattle.std.proofs.lemmas.Bool.{or_from}
 use Rattle.lf_lexer.specs.declared.tokens.Token.{Token}
 use Rattle.lf_lexer.specs.declared.tokens.Mark.TheVariants as mark
 use Rattle.lf_parser.specs.declared.name.Name.{Name}
@@ -37,9 +38,6 @@ pub record Deep (g : RuleSetting) (n : ℕ) (D : Cause → Deeper) (i j : Inner)
 or_yes : (a b : Bool) → (a ≡ false → b ≡ true) → (a || b) ≡ true
 or_yes true b h = refl
 or_yes false b h = h refl
-
-or_no : (a b : Bool) → a ≡ false → b ≡ false → (a || b) ≡ false
-or_no a b h k = ap (λ x. x || b) h ∙ k
 
 is_not : (k : ℕ) (o : Option Token) → is k o ≡ false → kind o ≡ k → ⊥
 is_not k o h e = let y = is_yes k o e in let z : true ≡ false = sym y ∙ h in cc
@@ -147,7 +145,7 @@ module _ (g : RuleSetting) (fits : (t : Token) → END < kind (Some t) → g.fit
     unfolding read.suffixes
     rule_suffixes e =
         rule_loop rule_suffix (proper_suffix Unexpected) goes_suffix
-        (λ o h. or_no (is DOT o) (is OPEN_SQUARE o) (is_no DOT o (λ e. omega arith)) (is_no OPEN_SQUARE o (λ e. omega arith)))
+        (λ o h. or_from (is DOT o) (is OPEN_SQUARE o) (is_no DOT o (λ e. omega arith)) (is_no OPEN_SQUARE o (λ e. omega arith)))
         (λ o h. tt) (λ o h. tt) suffix_below (λ o h. omega arith) e
 
     pub rule_place : RuleProperties g n (form.APlace (Room Unexpected) (D Unexpected)) (λ c. form.APlace (Room c) (D c)) (IsKind NAME) (Below SUFFIXES) (read.a_place room i) (read.a_place room' j)

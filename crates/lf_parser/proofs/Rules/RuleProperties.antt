@@ -111,15 +111,15 @@ module _ {A B : Type 0} (g : RuleSetting) (n m : ℕ) (P : Form A) (SP : Family 
   local : (ts t1 pre xs r s : List Token) (a : A) → ((s : List Token) → head t1 ≡ head s → p (pre ++ s) ≡ Ok a s) → t1 ≡ xs ++ r → head r ≡ head s → (p >>= f) ((pre ++ xs) ++ s) ≡ f a (xs ++ s)
   local ts t1 pre xs r s a l e hs = ap (p >>= f) (append_assoc pre xs s) ∙ step p f (pre ++ (xs ++ s)) (xs ++ s) a (l (xs ++ s) (ap head e ∙ head_append xs r s hs))
 
-  behind : (ts t1 : List Token) (a : A) → OutcomeSays g SP p ts (Ok a t1) → (o : ReadOutcome B) → OutcomeSays g (SQ a) (f a) t1 o → OutcomeSays g S (p >>= f) ts o
-  behind ts t1 a h (Ok b r) q = (
+  then_says : (ts t1 : List Token) (a : A) → OutcomeSays g SP p ts (Ok a t1) → (o : ReadOutcome B) → OutcomeSays g (SQ a) (f a) t1 o → OutcomeSays g S (p >>= f) ts o
+  then_says ts t1 a h (Ok b r) q = (
     h.0 ++ q.0,
     h.1 ∙ ap (λ x. h.0 ++ x) q.1 ∙ sym (append_assoc h.0 q.0 r),
     λ c. (h.0, q.0, a, refl, h.2 c, q.2 c),
     λ s hs. local ts t1 h.0 q.0 r s a h.3 q.1 hs ∙ q.3 s hs,
     each_append g.fits h.0 q.0 h.4 q.4,
   )
-  behind ts t1 a h (Err c r) q = (
+  then_says ts t1 a h (Err c r) q = (
     h.0 ++ q.0,
     h.1 ∙ ap (λ x. h.0 ++ x) q.1 ∙ sym (append_assoc h.0 q.0 r),
     inr (glue (SP Unexpected) (λ a. SQ a Unexpected) h.0 q.0 a (h.2 Unexpected) (weak a q.0 q.2)),
@@ -129,7 +129,7 @@ module _ {A B : Type 0} (g : RuleSetting) (n m : ℕ) (P : Form A) (SP : Family 
   )
 
   good_part : (ts : List Token) (o : ReadOutcome A) → OutcomeSays g SP p ts o → OutcomeSays g S (p >>= f) ts (then_read o f)
-  good_part ts (Ok a t1) h = behind ts t1 a h (f a t1) ((hq a).good t1)
+  good_part ts (Ok a t1) h = then_says ts t1 a h (f a t1) ((hq a).good t1)
   good_part ts (Err c r) h = (
     h.0,
     h.1,

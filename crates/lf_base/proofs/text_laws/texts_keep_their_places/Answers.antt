@@ -5,8 +5,9 @@ use Rattle.lf_base.proofs.text_laws.texts_keep_their_places.Goals as goal
 
 pub returns-clause-found : goal.returns-clause-found
 returns-clause-found c texts text =
-    ap (text_at (with_text texts text)) (sym (place_of-with_text texts (with_text texts text) text (grows_self (with_text texts text))))
-    ∙ text_at-place_of (with_text texts text) text (list_any-with_text texts text)
+    let added = with_text texts text in
+    ap (text_at added) (sym (place_of-with_text texts added text (grows_self added)))
+    ∙ text_at-place_of added text (list_any-with_text texts text)
 
 pub returns-clause-kept : goal.returns-clause-kept
 returns-clause-kept c = place_of_grows

@@ -12,14 +12,15 @@ returns-clause-refusals c =
     let texts = c.args.texts.now in
     let tree = plain_tree c.args.tree.now in
     let fs = tree.functions in
+    let of_frames = flat_map (frame_refusals texts fs) in
     let known = subst (λ l. Knows c.add_all.new.self texts (map plain_function l)
     × (c.add_all.new.first.refusal ≡ earliest c.new-first.result.refusal (names_refusals texts [] (map plain_function l))))
     c.as_slice.ensures (c.in_ok-add_all.ensures texts c.new-callees.ensures) in
     c.in_ok-names.ensures.refusals texts fs known.0
-    ∙ ap (λ l. earliest c.judge_functions.new.first.refusal (flat_map (frame_refusals texts fs) (plain_frames l))) c.as_slice-3.ensures.value
-    ∙ ap (λ l. earliest c.judge_functions.new.first.refusal (flat_map (frame_refusals texts fs) l)) c.in_ok-frames.ensures
-    ∙ ap (λ r. earliest r (flat_map (frame_refusals texts fs) (frames tree)))
+    ∙ ap (λ l. earliest c.judge_functions.new.first.refusal (of_frames (plain_frames l))) c.as_slice-3.ensures.value
+    ∙ ap (λ l. earliest c.judge_functions.new.first.refusal (of_frames l)) c.in_ok-frames.ensures
+    ∙ ap (λ r. earliest r (of_frames (frames tree)))
     (c.in_ok-judge_functions.ensures
     ∙ ap (λ l. earliest c.add_all.new.first.refusal (flat_map params_refusals (map plain_function l))) c.as_slice-2.ensures
     ∙ ap (λ r. earliest r (flat_map params_refusals fs)) (known.1 ∙ ap (λ r. earliest r (names_refusals texts [] fs)) c.new-first.ensures))
-    ∙ in_three None (names_refusals texts [] fs) (flat_map params_refusals fs) (flat_map (frame_refusals texts fs) (frames tree))
+    ∙ in_three None (names_refusals texts [] fs) (flat_map params_refusals fs) (of_frames (frames tree))

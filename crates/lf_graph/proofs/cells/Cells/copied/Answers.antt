@@ -16,6 +16,7 @@ loop-turn-preserved c keys list =
 
 pub returns : goal.returns
 returns c keys list =
+    let all = pairs (cells_of c.args.self.now) c.args.o keys in
     let w = list.width in
-    let l : length (pairs (cells_of c.args.self.now) c.args.o keys) ≡ length keys = length-map keys (paired (cells_of c.args.self.now) c.args.o) in
-    (c.loop-turn.invariant keys list).0 ∙ take_all c.loop-turn._turn (pairs (cells_of c.args.self.now) c.args.o keys) (grind arith)
+    let l : length all ≡ length keys = length-map keys (paired (cells_of c.args.self.now) c.args.o) in
+    (c.loop-turn.invariant keys list).0 ∙ take_all c.loop-turn._turn all (grind arith)

@@ -8,8 +8,9 @@ use Rattle.lf_graph.proofs.cells.Cells.key_at.Goals as goal
 
 pub loop-step-preserved : goal.loop-step-preserved
 loop-step-preserved c keys old =
-    c.step-key.ensures ∙ ap (next_from (link_of (cells_of c.args.self.now) c.args.o)) (c.loop-step.invariant keys old)
-    ∙ sym (IsList-step same_key Decides-same_key (link_of (cells_of c.args.self.now) c.args.o) c.args.ends.first c.args.ends.last (has_cell (cells_of c.args.self.now) c.args.o) keys c.loop-step._step old.list)
+    let cells = cells_of c.args.self.now in
+    c.step-key.ensures ∙ ap (next_from (link_of cells c.args.o)) (c.loop-step.invariant keys old)
+    ∙ sym (IsList-step same_key Decides-same_key (link_of cells c.args.o) c.args.ends.first c.args.ends.last (has_cell cells c.args.o) keys c.loop-step._step old.list)
 
 pub returns : goal.returns
 returns c keys old =

@@ -18,18 +18,21 @@ put_row-requires-clause-new c = name_is_new c.args.region c.args.self.now.rows c
 
 pub put_row-requires-clause-room : goal.put_row-requires-clause-room
 put_row-requires-clause-room c =
+    let rows = c.args.rows.now in
     let a = c.loop-row.invariant.1 in
     let b = c.requires.room in
-    let d : rows_cells (take (c.loop-row.row-index + 1) c.args.rows.now) ≤ rows_cells c.args.rows.now = cells_within c.args.rows.now (c.loop-row.row-index + 1) in
-    let e : rows_cells (take (c.loop-row.row-index + 1) c.args.rows.now) ≡ rows_cells (take c.loop-row.row-index c.args.rows.now) + (1 + length c.row-item.result.fields) = cells_more c.args.rows.now c.loop-row.row-index c.row-item.result (slice_get_read c.args.rows.now (length c.args.rows.now) c.loop-row.row-index c.row-item.result refl (grind arith) c.row-item.is) in
+    let d : rows_cells (take (c.loop-row.row-index + 1) rows) ≤ rows_cells rows = cells_within rows (c.loop-row.row-index + 1) in
+    let e : rows_cells (take (c.loop-row.row-index + 1) rows) ≡ rows_cells (take c.loop-row.row-index rows) + (1 + length c.row-item.result.fields) = cells_more rows c.loop-row.row-index c.row-item.result (slice_get_read rows (length rows) c.loop-row.row-index c.row-item.result refl (grind arith) c.row-item.is) in
     grind arith
 
 pub loop-row-preserved : goal.loop-row-preserved
 loop-row-preserved c =
+    let rows = c.args.rows.now in
+    let there = slice_get_read rows (length rows) c.loop-row.row-index c.row-item.result refl (grind arith) c.row-item.is in
     let a = c.loop-row.invariant.1 in
     let b = c.put_row.ensures.room in
-    let e : rows_cells (take (c.loop-row.row-index + 1) c.args.rows.now) ≡ rows_cells (take c.loop-row.row-index c.args.rows.now) + (1 + length c.row-item.result.fields) = cells_more c.args.rows.now c.loop-row.row-index c.row-item.result (slice_get_read c.args.rows.now (length c.args.rows.now) c.loop-row.row-index c.row-item.result refl (grind arith) c.row-item.is) in
-    (one_row_put c.args.region c.args.self.now.rows c.loop-row.self.rows c.args.rows.now c.loop-row.row-index c.row-item.result (slice_get_read c.args.rows.now (length c.args.rows.now) c.loop-row.row-index c.row-item.result refl (grind arith) c.row-item.is) c.loop-row.invariant.0 c.put_row.new.self.rows c.put_row.ensures.rows, grind arith)
+    let e : rows_cells (take (c.loop-row.row-index + 1) rows) ≡ rows_cells (take c.loop-row.row-index rows) + (1 + length c.row-item.result.fields) = cells_more rows c.loop-row.row-index c.row-item.result there in
+    (one_row_put c.args.region c.args.self.now.rows c.loop-row.self.rows rows c.loop-row.row-index c.row-item.result there c.loop-row.invariant.0 c.put_row.new.self.rows c.put_row.ensures.rows, grind arith)
 
 pub returns : goal.returns
 returns c = subst (λ l. SameByOwner c.loop-row.self.rows (c.args.self.now.rows ++ map (part_row c.args.region) l)) (take_all c.loop-row.row-index c.args.rows.now (grind arith)) c.loop-row.invariant.0
