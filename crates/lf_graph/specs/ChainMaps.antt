@@ -1,5 +1,5 @@
 -- What the tables hold that keep the chains: each row with its links, the ends of each owner's rows, and room for more.
-use Rattle.std.specs.Prelude.{List, Option, ℕ}
+use Rattle.std.specs.Prelude.{List, Option, Some, ℕ, ◌≡◌}
 use Rattle.std.specs.HashMap.{spare}
 use Rattle.lf_base.specs.declared.ids.ObjId.{ObjId}
 use Rattle.lf_base.specs.declared.values.Owner.{Owner}
@@ -11,11 +11,15 @@ use Rattle.lf_graph.specs.declared.row_table.RowTable.{RowTable}
 use Rattle.lf_graph.specs.declared.stored_row.Linked.{Linked}
 use Rattle.lf_graph.specs.Chains.{AreChains}
 use Rattle.lf_graph.specs.RegionEnds.{region_ends}
-use Rattle.lf_graph.specs.RowTables.{heads_in, row_room}
+use Rattle.lf_graph.specs.RowTables.{heads_in, row_room, slab_key_of}
 
 -- each row with its neighbours
 abbrev pub heads_of : RowTable → ObjId → Option Linked
 heads_of table o = heads_in table.rows table.index o
+
+-- the row of that name stands at that place of the table
+abbrev pub IsPlaceOf : RowTable → ObjId → ℕ → Type 0
+IsPlaceOf table o place = slab_key_of table.index o ≡ Some place
 
 -- so many more rows have room
 abbrev pub room_of : RowTable → ℕ

@@ -3,13 +3,14 @@
 
 ghost use Rattle.std.specs.Prelude.{◌≡◌, ◌<◌, ◌≤◌, ◌+◌, ◌-◌, ◌^◌, [], List, None, Some, IfSome, IsSome, OnOk};
 ghost use Rattle.std.specs.Option.{option_copied};
-ghost use Rattle.lf_base.specs.declared.ids.ObjId.{ObjId};
+ghost use Rattle.lf_base.specs.declared.ids.ObjId.{ObjId, ObjId as Name};
 ghost use Rattle.lf_base.specs.declared.values.Owner.{Owner};
 ghost use Rattle.lf_base.specs.Links.{after, head_or};
 ghost use Rattle.lf_base.specs.Names.{same_name};
-ghost use Rattle.lf_graph.specs.ChainMaps.{HasLists, ListsBecome, ends_room, heads_of, room_of};
+ghost use Rattle.lf_graph.specs.ChainMaps.{HasLists, IsPlaceOf, ListsBecome, ends_room, heads_of, room_of};
 ghost use Rattle.lf_graph.specs.Chains.{ChangesStoredAt, OnlyStoredAt, RelinksNext, RelinksPrev, left_without, linked_owner_at};
 ghost use Rattle.lf_graph.specs.Chains.{linked_row_at, list_pushed, recount, refield, reown};
+ghost use Rattle.lf_graph.specs.RowTables.{slab_key_of};
 
 use crate::cells::FieldEnds;
 use crate::owner_ends::OwnerEnds;
@@ -29,6 +30,7 @@ pub struct Chains {
 #[inline(always)]
 fn set_next(rows: &mut RowTable, at: Option<ObjId>, next: Option<ObjId>)
     ensures rows { RelinksNext (heads_of rows.old) (heads_of rows.new) at next }
+    ensures places { (o : Name) → slab_key_of rows.new.index o ≡ slab_key_of rows.old.index o }
     ensures room { room_of rows.new ≡ room_of rows.old }
 {
     if let Some(o) = at {
@@ -40,6 +42,7 @@ fn set_next(rows: &mut RowTable, at: Option<ObjId>, next: Option<ObjId>)
 #[inline(always)]
 fn set_prev(rows: &mut RowTable, at: Option<ObjId>, prev: Option<ObjId>)
     ensures rows { RelinksPrev (heads_of rows.old) (heads_of rows.new) at prev }
+    ensures places { (o : Name) → slab_key_of rows.new.index o ≡ slab_key_of rows.old.index o }
     ensures room { room_of rows.new ≡ room_of rows.old }
 {
     if let Some(o) = at {
@@ -96,6 +99,27 @@ impl Chains {
         row
     }
 
+    /// Where a row that is there stands in the table of rows.
+    #[inline(always)]
+    pub fn place(&self, o: ObjId) -> usize
+        requires { IsSome (linked_row_at (heads_of self.now.rows) o) }
+        ensures { IsPlaceOf self.now.rows o result }
+    {
+        let Some(place) = self.rows.place(o) else {
+            unreachable!()
+        };
+        place
+    }
+
+    /// The row at the place of a name.
+    #[inline(always)]
+    pub fn at(&self, place: usize) -> &StoredRow
+        requires { (o : Name) × IsPlaceOf self.now.rows o place }
+        ensures { (o : Name) → IsPlaceOf self.now.rows o place → linked_row_at (heads_of self.now.rows) o ≡ Some result.now }
+    {
+        &self.rows.at(place).row
+    }
+
     /// The first row of an owner.
     pub fn first(&self, owner: Owner) -> Option<ObjId>
         ensures { (lists : Owner → List ObjId) → HasLists self.now lists → result ≡ head_or (lists owner) None }
@@ -118,15 +142,17 @@ impl Chains {
         }
     }
 
-    /// Replaces the ends of the fields of a row, where there is one of that name.
+    /// Replaces the ends of the fields of the row at that place.
     #[inline(always)]
-    pub fn set_fields(&mut self, o: ObjId, fields: FieldEnds)
+    pub fn set_fields(&mut self, place: usize, fields: FieldEnds)
+        requires { (o : Name) × IsPlaceOf self.old.rows o place }
         ensures lists { ListsBecome self.old self.new (λ lists. lists) }
-        ensures rows { ChangesStoredAt (heads_of self.old.rows) (heads_of self.new.rows) o (refield fields) }
+        ensures rows { (o : Name) → IsPlaceOf self.old.rows o place
+            → ChangesStoredAt (heads_of self.old.rows) (heads_of self.new.rows) o (refield fields) }
         ensures rows_room { room_of self.new.rows ≡ room_of self.old.rows }
         ensures ends_room { ends_room self.new.ends ≡ ends_room self.old.ends }
     {
-        self.rows.set_fields(o, fields);
+        self.rows.set_fields(place, fields);
     }
 
     /// Counts one edge more to a row, where there is one of that name.
@@ -162,9 +188,8 @@ impl Chains {
         ensures rows_room { room_of self.new.rows ≡ room_of self.old.rows }
         ensures ends_room { ends_room self.old.ends ≤ ends_room self.new.ends + 1 }
     {
-        let Some(head) = self.rows.get(o) else {
-            unreachable!()
-        };
+        let place = self.place(o);
+        let head = self.rows.at(place);
         let from = head.row.owner;
         let Link { prev, next } = head.link;
         set_next(&mut self.rows, prev, next);
@@ -172,7 +197,7 @@ impl Chains {
         self.ends.cut(from, prev, next);
         let last = self.ends.push(owner, o);
         set_next(&mut self.rows, last, Some(o));
-        self.rows.set_owner(o, owner, last);
+        self.rows.set_owner(place, owner, last);
     }
 
     /// Puts a new row last under its owner.

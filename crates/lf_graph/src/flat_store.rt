@@ -44,9 +44,10 @@ impl FlatStore {
         ensures rows { SameByOwner self.new.rows (with_field_of self.old.rows o key v) }
         ensures room { self.old.spare ≤ self.new.spare + 1 }
     {
-        let before = self.chains.row(o).fields;
+        let place = self.chains.place(o);
+        let before = self.chains.at(place).fields;
         let fields = self.cells.push_last(o, before, key, v);
-        self.chains.set_fields(o, fields);
+        self.chains.set_fields(place, fields);
     }
 
     // Takes a row out with its fields.
@@ -218,9 +219,10 @@ impl Store for FlatStore {
             return None;
         };
         let value = cell.value;
-        let before = self.chains.row(o).fields;
+        let place = self.chains.place(o);
+        let before = self.chains.at(place).fields;
         let fields = self.cells.unlink(o, before, key);
-        self.chains.set_fields(o, fields);
+        self.chains.set_fields(place, fields);
         Some(value)
     }
 

@@ -3,7 +3,7 @@ ghost use Rattle.std.specs.Option.{option_copied};
 ghost use Rattle.slab.specs.Slab.{slab_len};
 ghost use Rattle.std.specs.HashMap.{hash_map_len, spare};
 ghost use Rattle.lf_base.specs.Names.{same_name};
-ghost use Rattle.lf_base.specs.declared.ids.ObjId.{ObjId};
+ghost use Rattle.lf_base.specs.declared.ids.ObjId.{ObjId as Name};
 ghost use Rattle.lf_base.specs.Links.{to_next, to_prev};
 ghost use Rattle.lf_graph.specs.Chains.{ChangesRowAt, OnlyRowAt, recount, refield, relink_head};
 ghost use Rattle.lf_graph.specs.Chains.{reown_head, restore_head};
@@ -73,11 +73,32 @@ impl RowTable {
         self.rows.get(key)
     }
 
+    /// Where the row of that name stands in the slab, where there is one.
+    #[inline(always)]
+    pub fn place(&self, o: ObjId) -> Option<usize>
+        ensures { result ≡ slab_key_of self.now.index o }
+    {
+        self.index.get(&o).copied()
+    }
+
+    /// The row at the place of a name, with its neighbours.
+    #[inline(always)]
+    pub fn at(&self, place: usize) -> &Linked
+        requires { (o : Name) × (slab_key_of self.now.index o ≡ Some place) }
+        ensures { (o : Name) → slab_key_of self.now.index o ≡ Some place → heads_in self.now.rows self.now.index o ≡ Some result.now }
+    {
+        let Some(head) = self.rows.get(place) else {
+            unreachable!()
+        };
+        head
+    }
+
     /// Another row comes after the row of that name, where there is one.
     #[inline(always)]
     pub fn set_next(&mut self, o: ObjId, next: Option<ObjId>)
         ensures rows { ChangesRowAt (heads_in self.old.rows self.old.index) (heads_in self.new.rows self.new.index) o
             (relink_head (to_next next)) }
+        ensures places { self.new.index ≡ self.old.index }
         ensures room { row_room self.new.rows self.new.index ≡ row_room self.old.rows self.old.index }
     {
         if let Some(&key) = self.index.get(&o) {
@@ -92,6 +113,7 @@ impl RowTable {
     pub fn set_prev(&mut self, o: ObjId, prev: Option<ObjId>)
         ensures rows { ChangesRowAt (heads_in self.old.rows self.old.index) (heads_in self.new.rows self.new.index) o
             (relink_head (to_prev prev)) }
+        ensures places { self.new.index ≡ self.old.index }
         ensures room { row_room self.new.rows self.new.index ≡ row_room self.old.rows self.old.index }
     {
         if let Some(&key) = self.index.get(&o) {
@@ -101,34 +123,32 @@ impl RowTable {
         }
     }
 
-    /// Puts the row of that name after that one under an owner, where there is such a
-    /// row.
+    /// Puts the row at that place after that one under an owner.
     #[inline(always)]
-    pub fn set_owner(&mut self, o: ObjId, owner: Owner, prev: Option<ObjId>)
-        ensures rows { ChangesRowAt (heads_in self.old.rows self.old.index) (heads_in self.new.rows self.new.index) o
-            (reown_head owner prev) }
+    pub fn set_owner(&mut self, place: usize, owner: Owner, prev: Option<ObjId>)
+        requires { (o : Name) × (slab_key_of self.old.index o ≡ Some place) }
+        ensures rows { (o : Name) → slab_key_of self.old.index o ≡ Some place
+            → ChangesRowAt (heads_in self.old.rows self.old.index) (heads_in self.new.rows self.new.index) o (reown_head owner prev) }
         ensures room { row_room self.new.rows self.new.index ≡ row_room self.old.rows self.old.index }
     {
-        if let Some(&key) = self.index.get(&o) {
-            if let Some(head) = self.rows.get_mut(key) {
-                head.row.owner = owner;
-                head.link.prev = prev;
-                head.link.next = None;
-            }
+        if let Some(head) = self.rows.get_mut(place) {
+            head.row.owner = owner;
+            head.link.prev = prev;
+            head.link.next = None;
         }
     }
 
-    /// Replaces the ends of the fields of the row of that name, where there is one.
+    /// Replaces the ends of the fields of the row at that place.
     #[inline(always)]
-    pub fn set_fields(&mut self, o: ObjId, fields: FieldEnds)
-        ensures rows { ChangesRowAt (heads_in self.old.rows self.old.index) (heads_in self.new.rows self.new.index) o
+    pub fn set_fields(&mut self, place: usize, fields: FieldEnds)
+        requires { (o : Name) × (slab_key_of self.old.index o ≡ Some place) }
+        ensures rows { (o : Name) → slab_key_of self.old.index o ≡ Some place
+            → ChangesRowAt (heads_in self.old.rows self.old.index) (heads_in self.new.rows self.new.index) o
             (restore_head (refield fields)) }
         ensures room { row_room self.new.rows self.new.index ≡ row_room self.old.rows self.old.index }
     {
-        if let Some(&key) = self.index.get(&o) {
-            if let Some(head) = self.rows.get_mut(key) {
-                head.row.fields = fields;
-            }
+        if let Some(head) = self.rows.get_mut(place) {
+            head.row.fields = fields;
         }
     }
 

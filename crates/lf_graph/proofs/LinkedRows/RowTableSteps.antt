@@ -41,6 +41,13 @@ module _ {S : Type 0} (rows : Slab Linked) (index : HashMap ObjId ℕ S) (leads 
           let gone : is_some (get rows k) ≡ false = ap (λ t. is_some (head_by rows t)) (sym e) ∙ ap is_some none in
           cc
 
+  -- at the key of a name there is a row
+  pub row_at_place : (o : ObjId) (key : ℕ) → slab_key_of index o ≡ Some key → get rows key ≡ None → ⊥
+  row_at_place o key found none =
+      let here : is_some (get rows key) ≡ true = head_is_there o (get rows key) (leads o key found) in
+      let gone : is_some (get rows key) ≡ false = ap is_some none in
+      absurd (cc (here, gone))
+
   -- a key without a row is no name's
   pub vacant_apart : (key : ℕ) → get rows key ≡ None → (o q : ObjId) (k : ℕ) → same_name o q ≡ false → slab_key_of index q ≡ Some k → k ≢ key
   vacant_apart key vacant o q k n e same =

@@ -10,29 +10,29 @@ use Rattle.lf_graph.proofs.FlatStores.FlatFound.{list_here, row_is_there, seen_a
 use Rattle.lf_graph.proofs.FlatStores.FlatSteps.{flat_refielded, rows_refielded, stored_changed}
 use Rattle.lf_graph.proofs.flat_store.FlatStore.add_field.Goals as goal
 
-pub row-requires : goal.row-requires
-row-requires c = row_is_there (seen_as c.self.invariant c.self.view_is) c.args.o c.requires.there
+pub place-place-requires : goal.place-place-requires
+place-place-requires c = row_is_there (seen_as c.self.invariant c.self.view_is) c.args.o c.requires.there
 
 pub push_last-fields-requires-clause-new : goal.push_last-fields-requires-clause-new
 push_last-fields-requires-clause-new c =
-    no_cell (cells_of c.self.inside.cells c.args.o c.args.key) (sym (value_found (seen_as c.self.invariant c.self.view_is) c.args.o c.row.result.now c.row.ensures c.args.key) ∙ c.requires.new)
+    no_cell (cells_of c.self.inside.cells c.args.o c.args.key) (sym (value_found (seen_as c.self.invariant c.self.view_is) c.args.o c.at.result.now (c.at.ensures c.args.o c.place-place.ensures) c.args.key) ∙ c.requires.new)
 
 pub invariant_of-self : goal.invariant_of-self
 invariant_of-self c =
     let before = seen_as c.self.invariant c.self.view_is in
-    let r = c.row.result.now in
+    let r = c.at.result.now in
     let keys = walked_keys (cells_of c.self.inside.cells) c.args.o r.fields in
-    flat_refielded c.set_fields.new.self c.push_last-fields.new.self before c.args.o r c.row.ensures (c.set_fields.ensures.lists (chain_of c.self.inside.chains) c.self.invariant.chains) c.push_last-fields.ensures.others
-    c.push_last-fields.result (keys ++ c.args.key ∷ []) (c.push_last-fields.ensures.lists keys (list_here before c.args.o r c.row.ensures)) (stored_changed (heads_of c.self.inside.chains.rows) (heads_of c.set_fields.new.self.rows) c.args.o r (refield c.push_last-fields.result) c.row.ensures c.set_fields.ensures.rows)
+    flat_refielded c.set_fields.new.self c.push_last-fields.new.self before c.args.o r (c.at.ensures c.args.o c.place-place.ensures) (c.set_fields.ensures.lists (chain_of c.self.inside.chains) c.self.invariant.chains) c.push_last-fields.ensures.others
+    c.push_last-fields.result (keys ++ c.args.key ∷ []) (c.push_last-fields.ensures.lists keys (list_here before c.args.o r (c.at.ensures c.args.o c.place-place.ensures))) (stored_changed (heads_of c.self.inside.chains.rows) (heads_of c.set_fields.new.self.rows) c.args.o r (refield c.push_last-fields.result) (c.at.ensures c.args.o c.place-place.ensures) (c.set_fields.ensures.rows c.args.o c.place-place.ensures))
 
 pub returns-clause-rows : goal.returns-clause-rows
 returns-clause-rows c =
     let before = seen_as c.self.invariant c.self.view_is in
-    let r = c.row.result.now in
+    let r = c.at.result.now in
     let keys = walked_keys (cells_of c.self.inside.cells) c.args.o r.fields in
-    let list = list_here before c.args.o r c.row.ensures in
-    rows_refielded c.set_fields.new.self c.push_last-fields.new.self before c.args.o r c.row.ensures (c.set_fields.ensures.lists (chain_of c.self.inside.chains) c.self.invariant.chains) c.push_last-fields.ensures.others
-    c.push_last-fields.result (keys ++ c.args.key ∷ []) (c.push_last-fields.ensures.lists keys list) (stored_changed (heads_of c.self.inside.chains.rows) (heads_of c.set_fields.new.self.rows) c.args.o r (refield c.push_last-fields.result) c.row.ensures c.set_fields.ensures.rows)
+    let list = list_here before c.args.o r (c.at.ensures c.args.o c.place-place.ensures) in
+    rows_refielded c.set_fields.new.self c.push_last-fields.new.self before c.args.o r (c.at.ensures c.args.o c.place-place.ensures) (c.set_fields.ensures.lists (chain_of c.self.inside.chains) c.self.invariant.chains) c.push_last-fields.ensures.others
+    c.push_last-fields.result (keys ++ c.args.key ∷ []) (c.push_last-fields.ensures.lists keys list) (stored_changed (heads_of c.self.inside.chains.rows) (heads_of c.set_fields.new.self.rows) c.args.o r (refield c.push_last-fields.result) (c.at.ensures c.args.o c.place-place.ensures) (c.set_fields.ensures.rows c.args.o c.place-place.ensures))
     (λ fields. put_field fields c.args.key c.args.v)
     (fields_pushed (cells_of c.self.inside.cells) (cells_of c.push_last-fields.new.self) c.args.o c.args.key c.args.v r.fields keys c.push_last-fields.ensures.value
-    (no_cell (cells_of c.self.inside.cells c.args.o c.args.key) (sym (value_found before c.args.o r c.row.ensures c.args.key) ∙ c.requires.new)) list)
+    (no_cell (cells_of c.self.inside.cells c.args.o c.args.key) (sym (value_found before c.args.o r (c.at.ensures c.args.o c.place-place.ensures) c.args.key) ∙ c.requires.new)) list)

@@ -25,22 +25,22 @@ returns-in_default-clause-rows g c =
 pub invariant_of-self : goal.invariant_of-self
 invariant_of-self g c =
     let before = seen_as c.self.invariant c.self.view_is in
-    let r = c.row.result.now in
+    let r = c.at.result.now in
     let keys = walked_keys (cells_of c.self.inside.cells) c.args.o r.fields in
-    flat_refielded c.set_fields.new.self c.unlink-fields.new.self before c.args.o r c.row.ensures (c.set_fields.ensures.lists (chain_of c.self.inside.chains) c.self.invariant.chains) c.unlink-fields.ensures.others
-    c.unlink-fields.result (without same_key c.args.key keys) (c.unlink-fields.ensures.lists keys (list_here before c.args.o r c.row.ensures)) (stored_changed (heads_of c.self.inside.chains.rows) (heads_of c.set_fields.new.self.rows) c.args.o r (refield c.unlink-fields.result) c.row.ensures c.set_fields.ensures.rows)
+    flat_refielded c.set_fields.new.self c.unlink-fields.new.self before c.args.o r (c.at.ensures c.args.o c.place-place.ensures) (c.set_fields.ensures.lists (chain_of c.self.inside.chains) c.self.invariant.chains) c.unlink-fields.ensures.others
+    c.unlink-fields.result (without same_key c.args.key keys) (c.unlink-fields.ensures.lists keys (list_here before c.args.o r (c.at.ensures c.args.o c.place-place.ensures))) (stored_changed (heads_of c.self.inside.chains.rows) (heads_of c.set_fields.new.self.rows) c.args.o r (refield c.unlink-fields.result) (c.at.ensures c.args.o c.place-place.ensures) (c.set_fields.ensures.rows c.args.o c.place-place.ensures))
 
 pub returns-clause-value : goal.returns-clause-value
 returns-clause-value g c =
-    sym (value_found (seen_as c.self.invariant c.self.view_is) c.args.o c.row.result.now c.row.ensures c.args.key ∙ ap (option_map (λ (x : Cell). x.value)) (sym c.in-Some.ensures))
+    sym (value_found (seen_as c.self.invariant c.self.view_is) c.args.o c.at.result.now (c.at.ensures c.args.o c.place-place.ensures) c.args.key ∙ ap (option_map (λ (x : Cell). x.value)) (sym c.in-Some.ensures))
 
 pub returns-clause-rows : goal.returns-clause-rows
 returns-clause-rows g c =
     let before = seen_as c.self.invariant c.self.view_is in
-    let r = c.row.result.now in
+    let r = c.at.result.now in
     let keys = walked_keys (cells_of c.self.inside.cells) c.args.o r.fields in
-    let list = list_here before c.args.o r c.row.ensures in
-    rows_refielded c.set_fields.new.self c.unlink-fields.new.self before c.args.o r c.row.ensures (c.set_fields.ensures.lists (chain_of c.self.inside.chains) c.self.invariant.chains) c.unlink-fields.ensures.others
-    c.unlink-fields.result (without same_key c.args.key keys) (c.unlink-fields.ensures.lists keys list) (stored_changed (heads_of c.self.inside.chains.rows) (heads_of c.set_fields.new.self.rows) c.args.o r (refield c.unlink-fields.result) c.row.ensures c.set_fields.ensures.rows)
+    let list = list_here before c.args.o r (c.at.ensures c.args.o c.place-place.ensures) in
+    rows_refielded c.set_fields.new.self c.unlink-fields.new.self before c.args.o r (c.at.ensures c.args.o c.place-place.ensures) (c.set_fields.ensures.lists (chain_of c.self.inside.chains) c.self.invariant.chains) c.unlink-fields.ensures.others
+    c.unlink-fields.result (without same_key c.args.key keys) (c.unlink-fields.ensures.lists keys list) (stored_changed (heads_of c.self.inside.chains.rows) (heads_of c.set_fields.new.self.rows) c.args.o r (refield c.unlink-fields.result) (c.at.ensures c.args.o c.place-place.ensures) (c.set_fields.ensures.rows c.args.o c.place-place.ensures))
     (λ fields. drop_field fields c.args.key)
     (fields_without (cells_of c.self.inside.cells) (cells_of c.unlink-fields.new.self) c.args.o c.args.key r.fields keys c.unlink-fields.ensures.value list)

@@ -1,17 +1,17 @@
-use Rattle.std.proofs.Common.{refl, sym, ◌∙◌}
+use Rattle.std.proofs.Common.{refl, ◌∙◌}
 use Rattle.lf_graph.specs.Chains.{reown_head}
 use Rattle.lf_graph.proofs.LinkedRows.RowTableSteps.{changed_heads, count_changed, names_lead_changed}
 use Rattle.lf_graph.proofs.row_table.RowTable.set_owner.Goals as goal
 
 pub invariant_of-self : goal.invariant_of-self
 invariant_of-self c = record {
-  leads = names_lead_changed c.args.self.now.rows c.args.self.now.index c.args.self.now.leads c.args.o c.in-Some.field-0.now (sym c.in-Some.ensures.value)
-      c.in-Some-get_mut.head.now c.in-Some-get_mut.ensures.value (reown_head c.args.owner c.args.prev) refl;
-  count = count_changed c.args.self.now.rows c.args.self.now.index c.args.self.now.leads c.args.o c.in-Some.field-0.now (sym c.in-Some.ensures.value)
-      c.in-Some-get_mut.head.now c.in-Some-get_mut.ensures.value (reown_head c.args.owner c.args.prev) ∙ c.args.self.now.count;
+  leads = names_lead_changed c.args.self.now.rows c.args.self.now.index c.args.self.now.leads c.requires.0 c.args.place c.requires.1
+      c.in-Some.head.now c.in-Some.ensures.value (reown_head c.args.owner c.args.prev) refl;
+  count = count_changed c.args.self.now.rows c.args.self.now.index c.args.self.now.leads c.requires.0 c.args.place c.requires.1
+      c.in-Some.head.now c.in-Some.ensures.value (reown_head c.args.owner c.args.prev) ∙ c.args.self.now.count;
 }
 
-pub returns-in-Some-get_mut-clause-rows : goal.returns-in-Some-get_mut-clause-rows
-returns-in-Some-get_mut-clause-rows c =
-    changed_heads c.args.self.now.rows c.args.self.now.index c.args.self.now.leads c.args.o c.in-Some.field-0.now (sym c.in-Some.ensures.value)
-    c.in-Some-get_mut.head.now c.in-Some-get_mut.ensures.value (reown_head c.args.owner c.args.prev)
+pub returns-in-Some-clause-rows : goal.returns-in-Some-clause-rows
+returns-in-Some-clause-rows c o at =
+    changed_heads c.args.self.now.rows c.args.self.now.index c.args.self.now.leads o c.args.place at
+    c.in-Some.head.now c.in-Some.ensures.value (reown_head c.args.owner c.args.prev)
