@@ -1,1 +1,3 @@
--- tbd
+-- From one suspect to the next.
+pub mod OneSuspect
+pub mod AllSuspects
