@@ -3,14 +3,14 @@ use Rattle.std.specs.Prelude.{Bool, List, Some, length, ℕ, ◌*◌, ◌+◌, �
 use Rattle.lf_base.specs.declared.ids.ObjId.{ObjId}
 use Rattle.lf_base.specs.declared.values.Owner.{Owner}
 use Rattle.lf_base.specs.Kept.{kept_rows}
-use Rattle.lf_base.specs.Losses.{justified, size}
+use Rattle.lf_base.specs.Losses.{size}
 use Rattle.lf_base.specs.Owners.{owner_in}
 use Rattle.lf_base.specs.PlainState.{Row, State}
 use Rattle.lf_base.specs.Settling.{Spent, Watched, without}
 use Rattle.lf_base.specs.Suspects.{Suspect}
 use Rattle.lf_graph.specs.StoredRows.{CountedRow, plain, rows_by_name}
 use Rattle.lf_regions.specs.declared.region.Region.{Region}
-use Rattle.lf_settle.specs.SettledStates.{CanDrop, IsCounted}
+use Rattle.lf_settle.specs.SettledStates.{CanDrop}
 use Rattle.lf_settle.specs.Verdicts.{GoesAlone, GoesWhole}
 use Rattle.lf_settle.specs.WorkLists.{WorkList}
 

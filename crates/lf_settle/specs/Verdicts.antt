@@ -1,5 +1,5 @@
 -- What must go because of a suspect.
-use Rattle.std.specs.Prelude.{List, Some, eqb, false, if◌then◌else◌, true, ◌≡◌}
+use Rattle.std.specs.Prelude.{List, Some, eqb, false, if◌then◌else◌, ◌≡◌}
 use Rattle.lf_base.specs.declared.ids.ObjId.{ObjId}
 use Rattle.lf_base.specs.declared.values.Owner.{Owner}
 use Rattle.lf_base.specs.declared.values.Owner.TheVariants.{In}

@@ -1,12 +1,12 @@
 -- What a store and a table tell of the state whose edges they count.
-use Rattle.std.proofs.Common.{Bool, List, None, Option, Some, ap, arith, eqb, false, ltb, not, refl, suc, sym, true, zero, ℕ, ◌&&◌, ◌+◌, ◌<◌, ◌∙◌, ◌≡◌}
+use Rattle.std.proofs.Common.{Bool, List, Some, ap, arith, eqb, false, ltb, not, refl, suc, sym, true, zero, ℕ, ◌&&◌, ◌+◌, ◌∙◌, ◌≡◌}
 use Rattle.lf_base.specs.declared.ids.ObjId.{ObjId}
 use Rattle.lf_base.specs.declared.values.Owner.{Owner}
 use Rattle.lf_base.specs.declared.values.Owner.TheVariants.{Frozen, In}
 use Rattle.lf_base.specs.Losses.{is_held}
 use Rattle.lf_base.specs.Names.{same_name}
 use Rattle.lf_base.specs.Owners.{is_bridge, is_in, owner_in}
-use Rattle.lf_base.specs.Ownership.{is_owned, is_owning, owning_edges}
+use Rattle.lf_base.specs.Ownership.{is_owning, owning_edges}
 use Rattle.lf_base.specs.PlainState.{State}
 use Rattle.lf_base.specs.WalkCounts.{borrowed, refs}
 use Rattle.lf_base.proofs.NameLemmas.SameNames.{same_name_itself}
@@ -19,7 +19,7 @@ use Rattle.lf_graph.specs.StoredRows.{AreRowsOf, CountedRow, HasRow, owner_at, r
 use Rattle.lf_laws.proofs.Losses.CountsFall.{positive_test}
 use Rattle.lf_laws.proofs.Rows.RowsByName.{row_of}
 use Rattle.lf_regions.specs.declared.region.Region.{Region}
-use Rattle.lf_regions.specs.Regions.{borrowed_of, has_region, owned_of}
+use Rattle.lf_regions.specs.Regions.{has_region}
 use Rattle.lf_settle.specs.LostEdges.{is_bare}
 use Rattle.lf_settle.specs.SettledStates.{IsCounted}
 

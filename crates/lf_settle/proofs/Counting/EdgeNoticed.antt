@@ -1,18 +1,17 @@
 -- The loss of one edge as the counts show it: the target lost its last justification, or is justified still.
-use Rattle.std.proofs.Common.{Bool, List, None, Option, Some, [], ap, arith, eqb, false, inl, inr, ltb, not, refl, subst, suc, sym, true, zero, ℕ, ◌&&◌, ◌+◌, ◌<◌, ◌∙◌, ◌∷◌, ◌≡◌, ◌≤◌, ◌⊎◌, ◌||◌}
-use Rattle.std.specs.List.{count_by}
+use Rattle.std.proofs.Common.{Bool, List, None, Option, Some, [], ap, arith, eqb, false, inl, inr, ltb, refl, subst, suc, sym, true, zero, ℕ, ◌&&◌, ◌+◌, ◌<◌, ◌∙◌, ◌∷◌, ◌≡◌, ◌⊎◌}
 use Rattle.std.proofs.lemmas.Bool.{both_ways}
 use Rattle.std.proofs.lemmas.Option.{none-some}
 use Rattle.lf_base.specs.declared.ids.ObjId.{ObjId}
 use Rattle.lf_base.specs.declared.values.Owner.{Owner}
 use Rattle.lf_base.specs.declared.values.Owner.TheVariants.{Frozen, In, Local}
 use Rattle.lf_base.specs.EdgeLists.{near_edges}
-use Rattle.lf_base.specs.Edges.{Content, Edge, Field, Slot, Source, edges, edges_by}
+use Rattle.lf_base.specs.Edges.{Content, Edge, Field, Slot, Source, edges_by}
 use Rattle.lf_base.specs.Losses.{LostLast, StillJustified, is_held, last_edge, last_of_region}
 use Rattle.lf_base.specs.Names.{same_name}
-use Rattle.lf_base.specs.Owners.{is_bridge, is_in, is_local_at, owner_in}
+use Rattle.lf_base.specs.Owners.{is_in, is_local_at, owner_in}
 use Rattle.lf_base.specs.Ownership.{is_in_other, is_owning, owning_edges}
-use Rattle.lf_base.specs.PlainState.{Row, State}
+use Rattle.lf_base.specs.PlainState.{State}
 use Rattle.lf_base.specs.Sets.{Member}
 use Rattle.lf_base.specs.Suspects.{Object, Suspect}
 use Rattle.lf_base.specs.WalkCounts.{borrowed, borrows, is_borrower, refs}
@@ -22,10 +21,9 @@ use Rattle.lf_domain.proofs.StateEdges.{only_bridges}
 use Rattle.lf_graph.specs.StoredRows.{CountedRow, owner_at, refs_at}
 use Rattle.lf_laws.proofs.Losses.CountsFall.{borrowed_fewer, not_none, owning_fewer, positive_test}
 use Rattle.lf_laws.proofs.Losses.OneLoss.{no_row, none_noticed, nothing_lost, one_noticed}
-use Rattle.lf_laws.proofs.Rows.OwnerTests.{local_at_is}
 use Rattle.lf_laws.proofs.Rows.RowsByName.{owner_is}
 use Rattle.lf_regions.specs.declared.region.Region.{Region}
-use Rattle.lf_settle.specs.LostEdges.{BeginsAt, HasLost, LosesPlace, NoticesLoss, is_bare, is_left_bare}
+use Rattle.lf_settle.specs.LostEdges.{HasLost, LosesPlace, NoticesLoss, is_bare, is_left_bare}
 use Rattle.lf_settle.specs.WorkLists.{WorkList}
 use Rattle.lf_settle.proofs.Counting.CountsTell.{bare_is_not_held, bridge_told, not_held_is_bare, owner_is_told, refs_told, region_told}
 use Rattle.lf_base.specs.Losses.{Loses, LosesEdges}

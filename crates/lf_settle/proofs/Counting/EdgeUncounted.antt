@@ -1,14 +1,12 @@
 -- That the edge of a place may be taken out of the counts, and what is there after it.
-use Rattle.std.proofs.Common.{Bool, List, None, Option, Some, ap, inl, inr, refl, subst, sym, true, ℕ, ◌&&◌, ◌∙◌, ◌≡◌, ◌≤◌}
-use Rattle.std.specs.List.{count_by}
+use Rattle.std.proofs.Common.{List, None, Option, Some, ap, refl, subst, sym, true, ◌&&◌, ◌∙◌, ◌≡◌, ◌≤◌}
 use Rattle.lf_base.specs.declared.ids.ObjId.{ObjId}
-use Rattle.lf_base.specs.declared.values.Owner.TheVariants.{In}
 use Rattle.lf_base.specs.EdgeLists.{near_edges}
-use Rattle.lf_base.specs.Edges.{Content, Edge, Field, Slot, Source}
+use Rattle.lf_base.specs.Edges.{Content, Field, Slot, Source}
 use Rattle.lf_base.specs.Names.{same_name}
-use Rattle.lf_base.specs.Owners.{is_bridge, is_in, is_local_at, owner_in}
+use Rattle.lf_base.specs.Owners.{is_in, is_local_at, owner_in}
 use Rattle.lf_base.specs.Ownership.{is_in_other, is_owning}
-use Rattle.lf_base.specs.PlainState.{Row, State}
+use Rattle.lf_base.specs.PlainState.{State}
 use Rattle.lf_base.specs.WalkCounts.{is_borrower}
 use Rattle.lf_domain.specs.Counts.{CountsOf}
 use Rattle.lf_domain.specs.OneEdge.{LiesIn, MayUncount, MayUncountOwner}

@@ -1,27 +1,24 @@
 -- What the counts say of a suspect.
-use Rattle.std.proofs.Common.{Bool, List, None, Option, Some, ap, arith, cond, eqb, false, ltb, not, refl, subst, suc, sym, true, zero, ℕ, ◌+◌, ◌<◌, ◌∙◌, ◌≡◌}
+use Rattle.std.proofs.Common.{Bool, List, None, Some, ap, arith, cond, eqb, false, not, refl, suc, sym, true, zero, ℕ, ◌+◌, ◌<◌, ◌∙◌, ◌≡◌}
 use Rattle.lf_base.specs.declared.ids.ObjId.{ObjId}
 use Rattle.lf_base.specs.declared.values.Owner.{Owner}
-use Rattle.lf_base.specs.declared.values.Owner.TheVariants.{Frozen, In, Local}
-use Rattle.lf_base.specs.Losses.{is_held, of_region}
+use Rattle.lf_base.specs.declared.values.Owner.TheVariants.{In, Local}
 use Rattle.lf_base.specs.Names.{same_name}
-use Rattle.lf_base.specs.Owners.{is_bridge, is_in, owner_in}
+use Rattle.lf_base.specs.Owners.{is_bridge, owner_in}
 use Rattle.lf_base.specs.Ownership.{owning_edges}
 use Rattle.lf_base.specs.PlainState.{State}
-use Rattle.lf_base.specs.Settling.{Idle}
-use Rattle.lf_base.specs.Suspects.{Bare, Object, Region}
+use Rattle.lf_base.specs.Suspects.{Object, Region}
 use Rattle.lf_base.specs.WalkCounts.{borrowed, refs}
 use Rattle.lf_base.proofs.NameLemmas.SameNames.{same_name_flips, same_name_is, same_name_itself}
 use Rattle.lf_graph.specs.StoredRows.{CountedRow, owner_at, refs_at}
 use Rattle.lf_laws.proofs.Losses.CountsFall.{above_zero, zero_not}
 use Rattle.lf_laws.proofs.Losses.DroppedSets.{bare_counts, bridge_idle, inner_can_go, inner_idle, local_can_go, local_idle, no_bridge_idle, nothing_idle, region_spends}
-use Rattle.lf_laws.proofs.Rows.OwnerTests.{in_region}
 use Rattle.lf_regions.specs.declared.region.Region as table
 use Rattle.lf_settle.specs.declared.verdict.Verdict.TheVariants.{DropRegion, DropRow, Stays}
 use Rattle.lf_settle.specs.LostEdges.{is_bare}
 use Rattle.lf_settle.specs.SettledStates.{IsCounted}
-use Rattle.lf_settle.specs.Verdicts.{GoesAlone, GoesWhole, Judges, row_verdict}
-use Rattle.lf_settle.proofs.Counting.CountsTell.{bare_is_not_held, bridge_itself, bridge_told, else_is_held, owner_is_told, refs_told}
+use Rattle.lf_settle.specs.Verdicts.{GoesWhole, Judges, row_verdict}
+use Rattle.lf_settle.proofs.Counting.CountsTell.{bare_is_not_held, bridge_told, else_is_held, owner_is_told, refs_told}
 
 zero_of : (n : ℕ) → eqb n 0 ≡ true → n ≡ 0
 zero_of n e = grind (arith, e)

@@ -1,19 +1,19 @@
 -- The loop over the suspects.
-use Rattle.std.proofs.Common.{List, [], ap, arith, length, refl, subst, sym, ℕ, ◌*◌, ◌+◌, ◌∙◌, ◌∷◌, ◌≡◌, ◌≤◌}
+use Rattle.std.proofs.Common.{List, [], ap, arith, length, subst, sym, ℕ, ◌*◌, ◌+◌, ◌∙◌, ◌∷◌, ◌≡◌, ◌≤◌}
 use Rattle.lf_base.specs.Kept.{kept, kept_rows}
-use Rattle.lf_base.specs.Losses.{dropped, justified, size}
+use Rattle.lf_base.specs.Losses.{dropped, size}
 use Rattle.lf_base.specs.Owners.{bridges}
 use Rattle.lf_base.specs.PlainState.{State}
 use Rattle.lf_base.specs.Settling.{Watched}
 use Rattle.lf_base.specs.Suspects.{AllHang, Suspect}
 use Rattle.lf_domain.specs.Counts.{CountsOf}
-use Rattle.lf_graph.specs.StoredRows.{CountedRow, plain, rows_by_name}
+use Rattle.lf_graph.specs.StoredRows.{CountedRow}
 use Rattle.lf_laws.proofs.Dropping.HangingIsWatched.{hang_watched}
 use Rattle.lf_laws.proofs.Dropping.HangingRows.{settled}
 use Rattle.lf_laws.proofs.Dropping.RowsInPlace.{rows_in_place}
 use Rattle.lf_laws.proofs.Losses.DroppedSets.{justified_most}
 use Rattle.lf_regions.specs.declared.region.Region.{Region}
-use Rattle.lf_settle.specs.Drops.{Settles, left_to_do, owed, stored}
+use Rattle.lf_settle.specs.Drops.{Settles, owed, stored}
 use Rattle.lf_settle.specs.SettledStates.{CanDrop, CanSettle, IsCounted}
 use Rattle.lf_settle.specs.Walks.{Going}
 use Rattle.lf_settle.specs.WorkLists.{WorkList}

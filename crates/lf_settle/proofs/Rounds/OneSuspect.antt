@@ -1,7 +1,7 @@
 -- What is left after one suspect.
-use Rattle.std.proofs.Common.{Bool, List, ap, arith, refl, subst, sym, ◌∙◌, ◌≡◌}
+use Rattle.std.proofs.Common.{Bool, List, arith, refl, subst, sym, ◌≡◌}
 use Rattle.lf_base.specs.declared.ids.ObjId.{ObjId}
-use Rattle.lf_base.specs.Losses.{of_region, size}
+use Rattle.lf_base.specs.Losses.{of_region}
 use Rattle.lf_base.specs.PlainState.{State}
 use Rattle.lf_base.specs.Settling.{CanGo, Idle, Spent, without}
 use Rattle.lf_base.specs.Suspects.{Suspect}

@@ -1,11 +1,10 @@
 -- The walk over a region's rows that empties them.
-use Rattle.std.proofs.Common.{Bool, List, None, Option, Some, [], ap, append_assoc, arith, cond, false, filter, inl, inr, length, map, refl, subst, sym, true, ℕ, ◌*◌, ◌++◌, ◌+◌, ◌<◌, ◌∙◌, ◌∷◌, ◌≡◌, ◌≤◌, ◌⊎◌}
+use Rattle.std.proofs.Common.{Bool, List, None, Option, Some, [], ap, append_assoc, arith, cond, false, inl, inr, length, map, refl, subst, sym, true, ℕ, ◌*◌, ◌++◌, ◌+◌, ◌<◌, ◌∙◌, ◌∷◌, ◌≡◌, ◌≤◌, ◌⊎◌}
 use Rattle.std.proofs.lemmas.Bool.{both_ways}
 use Rattle.std.proofs.lemmas.List.{length-map}
 use Rattle.std.proofs.lemmas.Option.{none-some}
 use Rattle.std.specs.Option.{is_some}
 use Rattle.lf_base.specs.declared.ids.ObjId.{ObjId}
-use Rattle.lf_base.specs.declared.values.Owner.{Owner}
 use Rattle.lf_base.specs.declared.values.Owner.TheVariants.{In}
 use Rattle.lf_base.specs.Losses.{Loses, emptied, of_region, size}
 use Rattle.lf_base.specs.Names.{same_name, same_owner}
@@ -18,7 +17,7 @@ use Rattle.lf_base.proofs.ListLemmas.Tests.{none_any, some_is}
 use Rattle.lf_base.proofs.NameLemmas.SameNames.{same_name_flips, same_name_is, same_name_itself}
 use Rattle.lf_domain.proofs.StoreEdges.{owned_has_row}
 use Rattle.lf_graph.specs.RowOrder.{SameOrder, names_under}
-use Rattle.lf_graph.specs.StoredRows.{CountedRow, HasRow, NamesDiffer, first_name, is_named, is_under, name_after, owner_at, owner_by, plain, row_named, rows_beside, rows_by_name, rows_of, rows_of_maybe}
+use Rattle.lf_graph.specs.StoredRows.{CountedRow, HasRow, NamesDiffer, first_name, is_named, is_under, name_after, owner_at, owner_by, plain, row_named, rows_beside, rows_of, rows_of_maybe}
 use Rattle.lf_graph.proofs.Stores.Reordered.{same_owner_is, same_owner_itself}
 use Rattle.lf_graph.proofs.Stores.Walks.{differ_filter}
 use Rattle.lf_laws.proofs.Losses.EmptiedRows.{clear}
@@ -26,7 +25,7 @@ use Rattle.lf_laws.proofs.Losses.LossesFollow.{loses_nothing, loses_then}
 use Rattle.lf_laws.proofs.Rows.OwnerTests.{in_region}
 use Rattle.lf_regions.specs.declared.region.Region.{Region}
 use Rattle.lf_settle.specs.Drops.{CanDropRegion, CanEmpty, SameCapacity, left_to_do, owed, stored}
-use Rattle.lf_settle.specs.SettledStates.{CanDrop, IsCounted}
+use Rattle.lf_settle.specs.SettledStates.{IsCounted}
 use Rattle.lf_settle.specs.Walks.{Sweeping, first_of, names_from}
 use Rattle.lf_settle.specs.WorkLists.{WorkList}
 use Rattle.lf_settle.proofs.Counting.CountsTell.{are_rows, owner_is_told}

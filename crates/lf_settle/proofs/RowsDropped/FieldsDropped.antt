@@ -1,5 +1,5 @@
 -- A field of a row is taken out, and its edge is lost.
-use Rattle.std.proofs.Common.{List, None, Option, Some, [], ap, arith, inl, inr, refl, subst, sym, ℕ, ◌+◌, ◌∙◌, ◌∷◌, ◌≡◌, ◌≤◌}
+use Rattle.std.proofs.Common.{List, None, Option, Some, [], ap, arith, inl, inr, refl, subst, sym, ◌∙◌, ◌∷◌, ◌≡◌, ◌≤◌}
 use Rattle.std.proofs.lemmas.Option.{none-some}
 use Rattle.lf_base.specs.declared.ids.ObjId.{ObjId}
 use Rattle.lf_base.specs.declared.values.Key.{Key}
@@ -7,7 +7,7 @@ use Rattle.lf_base.specs.declared.values.Owner.{Owner}
 use Rattle.lf_base.specs.declared.values.Value.{Value}
 use Rattle.lf_base.specs.EdgeLists.{near_edges}
 use Rattle.lf_base.specs.Edges.{Field, Source, slot_targets}
-use Rattle.lf_base.specs.Losses.{Loses, LostLast, justified}
+use Rattle.lf_base.specs.Losses.{LostLast, justified}
 use Rattle.lf_base.specs.Owners.{owner_in, row_at, row_owner}
 use Rattle.lf_base.specs.PlainState.{Row, State}
 use Rattle.lf_base.specs.Sets.{Member}

@@ -1,11 +1,11 @@
 -- Store and table once rows without fields are removed.
-use Rattle.std.proofs.Common.{Bool, List, None, Option, Some, [], ap, arith, cond, false, filter, inl, inr, length, ltb, not, refl, subst, sym, true, ℕ, ◌&&◌, ◌+◌, ◌<◌, ◌∙◌, ◌∷◌, ◌≡◌, ◌≤◌}
+use Rattle.std.proofs.Common.{Bool, List, None, Option, Some, [], ap, arith, cond, false, filter, inl, inr, length, not, refl, subst, sym, true, ℕ, ◌&&◌, ◌+◌, ◌∙◌, ◌∷◌, ◌≡◌, ◌≤◌}
 use Rattle.std.proofs.lemmas.Bool.{false_from_ne_true}
 use Rattle.std.specs.Option.{is_some}
 use Rattle.lf_base.specs.declared.ids.ObjId.{ObjId}
 use Rattle.lf_base.specs.declared.values.Owner.{Owner}
 use Rattle.lf_base.specs.Edges.{Edge, edges}
-use Rattle.lf_base.specs.Losses.{Loses, emptied, justified, size}
+use Rattle.lf_base.specs.Losses.{Loses, emptied, justified}
 use Rattle.lf_base.specs.Names.{same_name}
 use Rattle.lf_base.specs.Owners.{is_bridge, is_in, owner_in}
 use Rattle.lf_base.specs.Ownership.{is_owned, is_owning, owning_edges}
@@ -26,17 +26,16 @@ use Rattle.lf_graph.proofs.Stores.StateRows.{filtered_store, same_store}
 use Rattle.lf_laws.proofs.Dropping.RowsWithout.{owner_lost, owner_stay}
 use Rattle.lf_laws.proofs.Losses.CountsFall.{filter_ext}
 use Rattle.lf_laws.proofs.Losses.EmptiedRows.{borrowed_left, justified_left, old_bridge, owner_emptied, owning_left, refs_left, rest_is, rest_size, watched_left, well_left}
-use Rattle.lf_laws.proofs.Rows.RowsByName.{owner_has, row_of}
+use Rattle.lf_laws.proofs.Rows.RowsByName.{row_of}
 use Rattle.lf_regions.specs.declared.region.Region.{Region}
 use Rattle.lf_regions.specs.Regions.{borrowed_of, has_region, owned_of}
 use Rattle.lf_regions.specs.TableCounts.{IsTableOf}
 use Rattle.lf_settle.specs.Drops.{CanDropRow, CanEmpty, Drops, SameCapacity, left_to_do, owed}
-use Rattle.lf_settle.specs.SettledStates.{CanDrop, IsCounted}
-use Rattle.lf_settle.specs.Verdicts.{GoesAlone}
+use Rattle.lf_settle.specs.SettledStates.{IsCounted}
 use Rattle.lf_settle.specs.WorkLists.{WorkList}
 use Rattle.lf_settle.proofs.Counting.CountsTell.{all_counts, are_rows, row_is_there}
 use Rattle.lf_base.specs.Settling.{Spent, Watched}
-use Rattle.lf_base.specs.Suspects.{Suspect, Object}
+use Rattle.lf_base.specs.Suspects.{Suspect}
 
 -- what is found among the rows that are left
 found_left : (gone : ObjId → Bool) (rows : List CountedRow) (o : ObjId) → row_named (filter (λ c. not (gone (c.row).name)) rows) o ≡ cond (gone o) None (row_named rows o)

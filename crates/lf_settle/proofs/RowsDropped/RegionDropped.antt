@@ -1,7 +1,6 @@
 -- A region that is dropped whole.
-use Rattle.std.proofs.Common.{Bool, List, None, Option, Some, [], ap, arith, cond, false, filter, inl, inr, length, map, not, refl, subst, sym, true, ℕ, ◌*◌, ◌&&◌, ◌+◌, ◌∙◌, ◌∷◌, ◌≡◌, ◌≤◌}
+use Rattle.std.proofs.Common.{Bool, List, None, Option, Some, [], ap, arith, cond, false, filter, inl, inr, length, map, not, refl, sym, true, ℕ, ◌*◌, ◌&&◌, ◌+◌, ◌∙◌, ◌∷◌, ◌≡◌, ◌≤◌}
 use Rattle.std.proofs.lemmas.Bool.{both_ways, false_from_ne_true}
-use Rattle.std.proofs.lemmas.List.{length-map}
 use Rattle.lf_base.specs.declared.ids.ObjId.{ObjId}
 use Rattle.lf_base.specs.declared.values.Owner.{Owner}
 use Rattle.lf_base.specs.declared.values.Owner.TheVariants.{Frozen, In, Local}
@@ -20,9 +19,9 @@ use Rattle.lf_graph.specs.StoredRows.{CountedRow, NamesDiffer, SameByOwner, is_u
 use Rattle.lf_graph.proofs.Stores.StateRows.{filtered_store}
 use Rattle.lf_laws.proofs.Dropping.RowsInPlace.{rows_in_place}
 use Rattle.lf_laws.proofs.Dropping.RowsWithout.{owner_lost, owner_stay}
-use Rattle.lf_laws.proofs.Losses.CountsFall.{above_zero, not_above, zero_not}
+use Rattle.lf_laws.proofs.Losses.CountsFall.{not_above, zero_not}
 use Rattle.lf_laws.proofs.Losses.DroppedSets.{bare_counts, region_can_go}
-use Rattle.lf_laws.proofs.Losses.EmptiedRows.{clear, clear_name, clear_owner, filter_ext_on, owner_emptied, rest_size, watched_left}
+use Rattle.lf_laws.proofs.Losses.EmptiedRows.{clear, clear_owner, filter_ext_on, owner_emptied, rest_size, watched_left}
 use Rattle.lf_laws.proofs.Rows.RowsByName.{owner_mem, row_of}
 use Rattle.lf_regions.specs.declared.region.Region.{Region}
 use Rattle.lf_regions.specs.RegionChanges.{without_region}

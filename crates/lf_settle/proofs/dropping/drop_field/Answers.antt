@@ -1,4 +1,4 @@
-use Rattle.std.proofs.Common.{Some, ap, sym, ◌∙◌}
+use Rattle.std.proofs.Common.{Some, ap, ◌∙◌}
 use Rattle.lf_base.specs.Edges.{Field}
 use Rattle.lf_base.specs.TakeResult.{take_result}
 use Rattle.lf_base.specs.Owners.{is_local_at}

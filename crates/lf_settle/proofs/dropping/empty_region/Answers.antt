@@ -1,4 +1,4 @@
-use Rattle.std.proofs.Common.{arith, refl, ◌∙◌}
+use Rattle.std.proofs.Common.{refl, ◌∙◌}
 use Rattle.lf_settle.specs.Drops.{stored}
 use Rattle.lf_settle.proofs.RowsDropped.EmptiedRegion.{still_there, sweep_can, sweep_cost, sweep_counted, sweep_ends, sweep_init, sweep_less, sweep_loses, sweep_on}
 use Rattle.lf_settle.proofs.dropping.empty_region.Goals as goal

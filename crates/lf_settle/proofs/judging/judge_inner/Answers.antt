@@ -1,4 +1,4 @@
-use Rattle.std.proofs.Common.{ap, false, refl, subst, sym, ◌∙◌}
+use Rattle.std.proofs.Common.{ap, subst, sym, ◌∙◌}
 use Rattle.lf_base.specs.Owners.{owner_in}
 use Rattle.lf_base.specs.Suspects.{Object}
 use Rattle.lf_base.specs.declared.values.Owner.TheVariants.{In}
@@ -13,7 +13,7 @@ pub returns-then-is_bare-clause-judged : goal.returns-then-is_bare-clause-judged
 returns-then-is_bare-clause-judged g c s is h = judges_region (g.S.Store.rows c.args.store.now) c.args.regions.now s is c.args.o c.args.r h (sym c.is_bare.ensures ∙ c.if-is_bare.true)
 
 pub returns-then-eq-clause-judged : goal.returns-then-eq-clause-judged
-returns-then-eq-clause-judged g c s is h = 
+returns-then-eq-clause-judged g c s is h =
     let same = same_name_is c.args.r c.args.o (sym c.eq.ensures ∙ c.if-eq.true) in
     subst (λ o. Judges s Stays (Object o)) same
     (bridge_stays (g.S.Store.rows c.args.store.now) c.args.regions.now s is c.args.r (ap (owner_in s.rows) same ∙ h) (sym c.is_bare.ensures ∙ c.if-is_bare.false)).0

@@ -1,6 +1,5 @@
 use Rattle.std.proofs.Common.{Some, ap, subst, sym, ◌∙◌}
 use Rattle.lf_base.specs.Suspects.{Object}
-use Rattle.lf_base.specs.declared.values.Owner.TheVariants.{Frozen, In, Local}
 use Rattle.lf_settle.specs.Verdicts.{Judges, row_verdict}
 use Rattle.lf_settle.proofs.Counting.CountsTell.{no_frozen_row, owner_is_told}
 use Rattle.lf_settle.proofs.Counting.Judged.{judges_local, nothing_stays}

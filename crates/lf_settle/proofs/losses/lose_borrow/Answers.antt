@@ -1,6 +1,6 @@
-use Rattle.std.proofs.Common.{None, Some, inl, inr, refl}
+use Rattle.std.proofs.Common.{None, inl, refl}
 use Rattle.lf_base.specs.EdgeLists.{near_edges}
-use Rattle.lf_base.specs.Edges.{Content, Field, slot_targets}
+use Rattle.lf_base.specs.Edges.{slot_targets}
 use Rattle.lf_settle.proofs.Counting.EdgeUncounted.{has_lost, may_uncount}
 use Rattle.lf_settle.proofs.losses.lose_borrow.Goals as goal
 

@@ -1,6 +1,6 @@
-use Rattle.std.proofs.Common.{None, Some, inl, inr, refl}
+use Rattle.std.proofs.Common.{None, inr}
 use Rattle.lf_base.specs.EdgeLists.{near_edges}
-use Rattle.lf_base.specs.Edges.{Content, Field, slot_targets}
+use Rattle.lf_base.specs.Edges.{Content, slot_targets}
 use Rattle.lf_settle.proofs.Counting.EdgeUncounted.{has_lost, may_uncount_owner}
 use Rattle.lf_settle.proofs.losses.lose_content.Goals as goal
 

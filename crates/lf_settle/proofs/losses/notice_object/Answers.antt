@@ -1,5 +1,4 @@
-use Rattle.std.proofs.Common.{Some, ap, inl, refl, subst, sym, ◌∙◌, ◌∷◌, []}
-use Rattle.lf_base.specs.declared.values.Owner.TheVariants.{In}
+use Rattle.std.proofs.Common.{inl, refl, subst, sym, ◌∙◌, ◌∷◌, []}
 use Rattle.lf_base.specs.Edges.{Source}
 use Rattle.lf_base.specs.Losses.{LostLast}
 use Rattle.lf_base.specs.PlainState.{State}

@@ -1,4 +1,4 @@
-use Rattle.std.proofs.Common.{ap, arith, length, refl, ◌∙◌}
+use Rattle.std.proofs.Common.{ap, arith, length, refl}
 use Rattle.lf_settle.specs.Drops.{stored}
 use Rattle.lf_settle.specs.WorkLists.{seen}
 use Rattle.lf_settle.proofs.Rounds.AllSuspects.{can_next, counts_kept, going_init, going_on, steps_bounded}

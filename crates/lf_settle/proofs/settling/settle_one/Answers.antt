@@ -1,4 +1,4 @@
-use Rattle.std.proofs.Common.{ap, arith, subst, sym, ◌∙◌}
+use Rattle.std.proofs.Common.{ap, arith, subst}
 use Rattle.lf_base.specs.Losses.{of_region, size}
 use Rattle.lf_base.specs.Names.{same_name}
 use Rattle.lf_base.specs.PlainState.{State}
