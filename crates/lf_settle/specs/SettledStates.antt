@@ -1,6 +1,9 @@
 -- What is handed to settling: a store and a table of one well-formed state, and suspects.
-use Rattle.std.specs.Prelude.{List, ◌≤◌}
+use Rattle.std.specs.Prelude.{List, Option, [], length, ℕ, ◌<◌, ◌≡◌, ◌≤◌}
+use Rattle.lf_base.specs.declared.values.Value.{Value}
+use Rattle.lf_base.specs.Kept.{kept_rows}
 use Rattle.lf_base.specs.Losses.{justified}
+use Rattle.lf_base.specs.PlainChanges.{slot_at}
 use Rattle.lf_base.specs.PlainState.{State}
 use Rattle.lf_base.specs.Settling.{Watched}
 use Rattle.lf_base.specs.WellFormed.{WellFormed}
@@ -23,3 +26,11 @@ pub record CanDrop (rows : List CountedRow) (regions : List Region) (work : Work
 pub record CanSettle (rows : List CountedRow) (regions : List Region) (work : WorkList) (s : State) : Type 0 where
   pub can_drop : CanDrop rows regions work s
   pub watched : Watched s work.suspects
+
+-- a state of which all rows stay, without suspects, whose slot at a place holds this
+pub record MayUnset (rows : List CountedRow) (regions : List Region) (work : WorkList) (s : State) (n : ℕ) (v : Option Value) : Type 0 where
+  pub can_drop : CanDrop rows regions work s
+  pub all_stay : kept_rows s ≡ s.rows
+  pub there : n < length s.slots
+  pub holds : slot_at s.slots n ≡ v
+  pub none_yet : work.suspects ≡ []

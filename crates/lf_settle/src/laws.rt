@@ -13,7 +13,8 @@ ghost use Rattle.lf_base.specs.Suspects.{AllHang, Suspect};
 ghost use Rattle.lf_domain.specs.Counts.{CountsOf};
 ghost use Rattle.lf_graph.specs.StoredRows.{CountedRow};
 ghost use Rattle.lf_regions.specs.declared.region.Region.{Region};
-ghost use Rattle.lf_settle.specs.LostEdges.{LosesPlace, NoticesLoss};
+ghost use Rattle.lf_settle.specs.Drops.{SameCapacity};
+ghost use Rattle.lf_settle.specs.LostEdges.{HasRoom, LosesPlace, NoticesLoss};
 ghost use Rattle.lf_settle.specs.SettledStates.{CanSettle, IsCounted};
 ghost use Rattle.lf_settle.specs.WorkLists.{WorkList};
 ghost use Rattle.lf_base.specs.Settling.{Watched};
@@ -34,4 +35,13 @@ pub fn hanging_rows_may_be_settled()
         → length s.rows ≡ length rows }
     ensures none { (rows : List CountedRow) (regions : List Region) (work : WorkList) (s : State) → CanSettle rows regions work s
         → CountsOf rows regions s }
+{}
+
+/// Where there is room for as many suspects as something is justified, there is room for
+/// what the loss of an edge leaves without justification, and enough again after it.
+pub fn room_lasts()
+    ensures room { (s t : State) (from : Source) (v : Option Value) (work : WorkList) → LosesPlace s t from (slot_targets v)
+        → justified s ≤ work.spare → HasRoom s t (slot_targets v) work }
+    ensures after { (s t : State) (old new : WorkList) → Loses s t old.suspects new.suspects → SameCapacity old new
+        → justified s ≤ old.spare → justified t ≤ new.spare }
 {}

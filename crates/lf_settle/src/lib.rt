@@ -10,9 +10,11 @@
 //!
 //! It promises that afterwards just the rows that stay are there, with their counts and
 //! flags. It takes no memory and doesn't recurse, and its steps are bounded by what it is
-//! handed and what it drops. `laws` has what callers conclude.
+//! handed and what it drops. `laws` has what callers conclude, and
+//! `callers` a caller that is proved from the clauses alone.
 #![tactic(auto)]
 
+pub mod callers;
 mod dropping;
 mod judging;
 pub mod laws;
