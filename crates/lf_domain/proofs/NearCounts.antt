@@ -1,10 +1,8 @@
 -- Where a store and a table count the near edges of a well-formed state, they count all its edges, and the other way round.
-use Rattle.std.proofs.Common.{List, None, Option, Some, ap, refl, sym, true, ◌∙◌, ◌≡◌}
-use Rattle.std.specs.List.{list_any}
+use Rattle.std.proofs.Common.{List, None, Option, Some, refl, sym, true, ◌∙◌, ◌≡◌}
 use Rattle.std.specs.Option.{is_some}
 use Rattle.lf_base.specs.declared.ids.ObjId.{ObjId}
 use Rattle.lf_base.specs.declared.values.Owner.{Owner}
-use Rattle.lf_base.specs.EdgeLists.{near_edges}
 use Rattle.lf_base.specs.Edges.{edges}
 use Rattle.lf_base.specs.declared.values.Owner.TheVariants.{In}
 use Rattle.lf_base.specs.Owners.{has_row, is_bridge, owner_in}
@@ -15,9 +13,7 @@ use Rattle.lf_laws.proofs.Edges.FrozenEdges.{near_borrowed, near_owned, near_ref
 use Rattle.lf_laws.proofs.Rows.OwnerTests.{in_region}
 use Rattle.lf_laws.proofs.Rows.RowsByName.{owner_has}
 use Rattle.lf_regions.specs.declared.region.Region.{Region}
-use Rattle.lf_regions.specs.TableCounts.{owns_region}
 use Rattle.lf_domain.specs.Counts.{Counts, CountsOf}
-use Rattle.lf_domain.proofs.EdgeTests.{any_counts, some_of}
 use Rattle.lf_domain.proofs.StoreEdges.{owner_told}
 
 -- a row's name and owner

@@ -1,5 +1,5 @@
 -- What leaves the order of rows as it is: a change of fields, and a change of counts.
-use Rattle.std.proofs.Common.{List, ap, map, refl, ◌-◌, ◌∙◌}
+use Rattle.std.proofs.Common.{List, ap, refl, ◌-◌, ◌∙◌}
 use Rattle.lf_base.specs.declared.ids.ObjId.{ObjId}
 use Rattle.lf_base.specs.declared.values.Key.{Key}
 use Rattle.lf_base.specs.Owners.{names}

@@ -1,13 +1,11 @@
 -- A slot that is unset: what may be lost, and what may be settled then.
-use Rattle.std.proofs.Common.{List, None, Option, Some, [], ap, arith, inl, inr, length, subst, sym, ℕ, ◌+◌, ◌∙◌, ◌≡◌, ◌≤◌}
+use Rattle.std.proofs.Common.{List, None, Option, Some, arith, inl, inr, subst, ℕ}
 use Rattle.std.proofs.lemmas.Option.{none-some}
 use Rattle.lf_base.specs.declared.values.Value.{Value}
-use Rattle.lf_base.specs.EdgeLists.{SameEdges, near_edges}
-use Rattle.lf_base.specs.Edges.{Slot, edges_by, slot_targets}
-use Rattle.lf_base.specs.Losses.{Loses, LosesEdges, justified}
-use Rattle.lf_base.specs.PlainChanges.{put_slot, slot_at, with_slot_at}
+use Rattle.lf_base.specs.Edges.{Slot, slot_targets}
+use Rattle.lf_base.specs.Losses.{Loses}
+use Rattle.lf_base.specs.PlainChanges.{put_slot, with_slot_at}
 use Rattle.lf_base.specs.PlainState.{State}
-use Rattle.lf_base.specs.Sets.{Member}
 use Rattle.lf_base.specs.WellFormed.{WellFormed}
 use Rattle.lf_domain.specs.Counts.{CountsOf}
 use Rattle.lf_graph.specs.StoredRows.{CountedRow}
