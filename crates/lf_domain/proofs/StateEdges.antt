@@ -44,7 +44,7 @@ module _ (s : State) (well : WellFormed s) where
   found_owner o w k = ap (or_frozen (has_row s.given o || has_row s.own o)) k
 
   -- from a row of a region and from a content an edge leads to another region's bridge alone
-  leads_to_bridge : (from : Source) (home : Option ObjId) → LiesIn s.rows from home → (o r : ObjId) → may_lead s from o ≡ true → owner_in s.rows o ≡ Some (In r) → is_other_region home r ≡ true → r ≡ o
+  pub leads_to_bridge : (from : Source) (home : Option ObjId) → LiesIn s.rows from home → (o r : ObjId) → may_lead s from o ≡ true → owner_in s.rows o ≡ Some (In r) → is_other_region home r ≡ true → r ≡ o
   leads_to_bridge Slot home l o r m k other = absurd l
   leads_to_bridge (Field p) None l o r m k other = absurd l
   leads_to_bridge (Field p) (Some home) l o r m k other =

@@ -7,6 +7,7 @@ ghost use Rattle.lf_base.specs.WalkCounts.{is_borrower};
 ghost use Rattle.lf_domain.specs.Counts.{Counts};
 ghost use Rattle.lf_domain.specs.OneEdge.{MayCount, MayUncount};
 ghost use Rattle.lf_graph.specs.Room.{LowersNone};
+ghost use Rattle.lf_graph.specs.RowOrder.{SameOrder};
 
 use crate::targets::target_of;
 use lf_base::{ObjId, Owner, Steps, Value};
@@ -47,6 +48,7 @@ pub fn uncount_borrow<S: Store, L: Ledger>(
         → MayUncount (S.rows store.old) regions.old of es fs from (slot_targets v)
         → Counts (S.rows store.new) regions.new of fs }
     ensures room { LowersNone (S.spare store.old) (S.spare store.new) }
+    ensures order { SameOrder (S.rows store.new) (S.rows store.old) }
     ensures steps { steps.new ≤ steps.old + 2 }
 {
     if let Some(o) = target_of(v) {
@@ -91,6 +93,7 @@ fn uncount_object<S: Store, L: Ledger>(
         → MayUncount (S.rows store.old) regions.old of es fs from (o ∷ [])
         → Counts (S.rows store.new) regions.new of fs }
     ensures room { LowersNone (S.spare store.old) (S.spare store.new) }
+    ensures order { SameOrder (S.rows store.new) (S.rows store.old) }
     ensures steps { steps.new ≤ steps.old + 2 }
 {
     let Some(owner) = store.owner(o, steps) else {

@@ -9,6 +9,7 @@ ghost use Rattle.lf_base.specs.PlainState.{Row};
 ghost use Rattle.lf_domain.specs.Counts.{Counts};
 ghost use Rattle.lf_domain.specs.OneEdge.{MayCountOwner, MayUncountOwner, other_owned};
 ghost use Rattle.lf_graph.specs.Room.{LowersNone};
+ghost use Rattle.lf_graph.specs.RowOrder.{SameOrder};
 ghost use Rattle.lf_regions.specs.Regions.{has_region};
 
 use crate::targets::target_of;
@@ -54,6 +55,7 @@ pub fn uncount_inner<S: Store, L: Ledger>(
         → MayUncountOwner (S.rows store.old) regions.old of es fs (Field p) (slot_targets v) (Some home)
         → Counts (S.rows store.new) regions.new of fs }
     ensures room { LowersNone (S.spare store.old) (S.spare store.new) }
+    ensures order { SameOrder (S.rows store.new) (S.rows store.old) }
     ensures steps { steps.new ≤ steps.old + 2 }
 {
     if let Some(o) = target_of(v) {
@@ -96,6 +98,7 @@ pub fn uncount_content<S: Store, L: Ledger>(
         → MayUncountOwner (S.rows store.old) regions.old of es fs (Content c) (slot_targets v) None
         → Counts (S.rows store.new) regions.new of fs }
     ensures room { LowersNone (S.spare store.old) (S.spare store.new) }
+    ensures order { SameOrder (S.rows store.new) (S.rows store.old) }
     ensures steps { steps.new ≤ steps.old + 2 }
 {
     if let Some(o) = target_of(v) {
@@ -146,6 +149,7 @@ fn uncount_object<S: Store, L: Ledger>(
         → MayUncountOwner (S.rows store.old) regions.old of es fs from (o ∷ []) home
         → Counts (S.rows store.new) regions.new of fs }
     ensures room { LowersNone (S.spare store.old) (S.spare store.new) }
+    ensures order { SameOrder (S.rows store.new) (S.rows store.old) }
     ensures steps { steps.new ≤ steps.old + 2 }
 {
     let Some(owner) = store.owner(o, steps) else {

@@ -3,6 +3,7 @@ pub mod Reordered
 pub mod Changes
 pub mod StateRows
 pub mod RowLists
+pub mod RowOrder
 pub mod Walks
 pub mod FieldWalks
 pub mod AfterCalls

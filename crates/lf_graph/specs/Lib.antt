@@ -1,5 +1,6 @@
 -- The rows of every store, and what its calls make of them.
 pub mod StoredRows
+pub mod RowOrder
 pub mod RowChanges
 pub mod StoreCounts
 pub mod Room

@@ -20,6 +20,7 @@ ghost use Rattle.lf_base.specs.WriteResult.{put_field, relabel, write_fields};
 ghost use Rattle.lf_graph.specs.Parts.{AllNew};
 ghost use Rattle.lf_graph.specs.RowChanges.{lowered, moved_last, moved_rows, new_row, raised, with_field_of, with_fields};
 ghost use Rattle.lf_graph.specs.RowChanges.{with_new_row, with_owner, with_refs, without_field_of, without_row, without_rows};
+ghost use Rattle.lf_graph.specs.RowOrder.{SameOrder};
 ghost use Rattle.lf_graph.specs.StoredRows.{AreRowsOf, CountedRow, HasRow, IsNewName, NamesDiffer, SameByOwner, first_name};
 ghost use Rattle.lf_graph.specs.StoredRows.{name_after, plain, row_named, rows_beside, rows_by_name, rows_of, rows_outside};
 
@@ -106,6 +107,13 @@ pub fn row_lists()
         → SameByOwner new (without_rows rows os) → AreRowsOf new (filter (λ r. not (has_name os r.name)) of) }
     ensures state_moved { (rows new : List CountedRow) (of : List Row) (os : List ObjId) (w : Owner) → AreRowsOf rows of
         → SameByOwner new (moved_rows rows os w) → AreRowsOf new (relabel of os w) }
+{}
+
+/// A field that is taken out, and an edge that is counted less, leave the rows of each
+/// owner in their order.
+pub fn rows_stay_in_order()
+    ensures field { (rows new : List CountedRow) (o : ObjId) (k : Key) → SameByOwner new (without_field_of rows o k) → SameOrder new rows }
+    ensures count { (rows new : List CountedRow) (o : ObjId) → SameByOwner new (lowered rows o) → SameOrder new rows }
 {}
 
 /// What is found by name in a store is the state's row, and an owner's rows are those

@@ -55,7 +55,7 @@ home = record { birth = 1; seq = 1 }
 abbrev pub child : ObjId
 child = record { birth = 1; seq = 2 }
 
-leads_to : (bridge : ObjId) → owner_in two_regions.rows bridge ≡ Some (In bridge) → (of : Option ObjId) → OnlyBridges two_regions.rows (bridge ∷ []) of
+pub leads_to : (bridge : ObjId) → owner_in two_regions.rows bridge ≡ Some (In bridge) → (of : Option ObjId) → OnlyBridges two_regions.rows (bridge ∷ []) of
 leads_to bridge is of o r (inl e) k other = sym (in_is bridge r (some_is (In bridge) (In r) (sym is ∙ ap (owner_in two_regions.rows) e ∙ k))) ∙ e
 leads_to bridge is of o r (inr m) k other = absurd m
 

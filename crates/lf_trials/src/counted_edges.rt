@@ -19,14 +19,14 @@ use lf_regions::RegionTable;
 use std::alloc::Global;
 use std::sync::ledger::{Blank, Ledger};
 
-const HOME: ObjId = ObjId { birth: 1, seq: 1 };
+pub(crate) const HOME: ObjId = ObjId { birth: 1, seq: 1 };
 
-const CHILD: ObjId = ObjId { birth: 1, seq: 2 };
+pub(crate) const CHILD: ObjId = ObjId { birth: 1, seq: 2 };
 
 const LOCAL: ObjId = ObjId { birth: 1, seq: 3 };
 
 // The edges to a bridge, the borrows of its region, and whether it is owned.
-fn told<S: Store, L: Ledger>(
+pub(crate) fn told<S: Store, L: Ledger>(
     store: &S,
     regions: &RegionTable,
     bridge: ObjId,
@@ -59,7 +59,7 @@ fn add_region<S: Store, L: Ledger>(
 }
 
 // Makes a local object of the next name.
-fn add_object<S: Store, L: Ledger>(
+pub(crate) fn add_object<S: Store, L: Ledger>(
     store: &mut S,
     regions: &RegionTable,
     name: ObjId,
@@ -75,7 +75,7 @@ fn add_object<S: Store, L: Ledger>(
 }
 
 // Two regions without edges.
-fn made_regions<S: Store, L: Ledger>(
+pub(crate) fn made_regions<S: Store, L: Ledger>(
     alloc: Global,
     steps: &mut Steps<L>,
 ) -> Result<(S, RegionTable), OutOfMemory>

@@ -1,7 +1,7 @@
 //! What every store of rows has to pass, and the tests of the stores, of the table of
-//! regions, and of the counts that both keep of edges.
+//! regions, of the counts that both keep of edges, and of settling.
 //!
-//! It stands on `lf_domain`, `lf_graph`, `lf_regions`, `lf_laws` and `lf_base`. `trials` has calls of any store
+//! It stands on `lf_settle`, `lf_domain`, `lf_graph`, `lf_regions`, `lf_laws` and `lf_base`. `trials` has calls of any store
 //! that ask for nothing, and `cases` drives them by a table: `failed_case` names the first
 //! case that a store fails. A new store is added to `store_tests`, with one test.
 #![tactic(auto)]
@@ -15,6 +15,9 @@ mod domain_tests;
 mod moved_regions;
 #[cfg(test)]
 mod region_tests;
+#[cfg(test)]
+mod settle_tests;
+pub mod settled_rows;
 #[cfg(test)]
 mod store_tests;
 pub mod trials;

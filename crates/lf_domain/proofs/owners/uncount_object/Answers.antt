@@ -2,6 +2,7 @@ use Rattle.std.proofs.Common.{Some, ap, refl, sym, ◌∙◌}
 use Rattle.lf_base.specs.declared.values.Owner.TheVariants.{Frozen, Local}
 use Rattle.lf_domain.proofs.CountedEdges.{lose_inside, lose_nowhere, lose_outside, region_there}
 use Rattle.lf_domain.proofs.StoreEdges.{refs_some}
+use Rattle.lf_graph.proofs.Stores.RowOrder.{count_order}
 use Rattle.lf_domain.proofs.owners.uncount_object.Goals as goal
 
 pub returns-in_default-clause-counted : goal.returns-in_default-clause-counted
@@ -30,3 +31,15 @@ returns-in-Frozen-clause-counted g c of es fs from m =
 pub returns-in-In-clause-counted : goal.returns-in-In-clause-counted
 returns-in-In-clause-counted g c of es fs from m =
     lose_inside (g.S.Store.rows c.args.store.now) c.args.regions.now of es c.args.o from c.args.home fs m c.in-In.r (sym c.in-Some.ensures.owner ∙ ap Some c.in-In.is) _ c.sub_ref.ensures.rows _ c.set_other.ensures
+
+pub returns-in_default-clause-order : goal.returns-in_default-clause-order
+returns-in_default-clause-order g c w = refl
+
+pub returns-in-Local-clause-order : goal.returns-in-Local-clause-order
+returns-in-Local-clause-order g c = count_order (g.S.Store.rows c.args.store.now) _ c.args.o c.sub_ref.ensures.rows
+
+pub returns-in-Frozen-clause-order : goal.returns-in-Frozen-clause-order
+returns-in-Frozen-clause-order g c = count_order (g.S.Store.rows c.args.store.now) _ c.args.o c.sub_ref.ensures.rows
+
+pub returns-in-In-clause-order : goal.returns-in-In-clause-order
+returns-in-In-clause-order g c = count_order (g.S.Store.rows c.args.store.now) _ c.args.o c.sub_ref.ensures.rows
