@@ -1,0 +1,12 @@
+pub mod Courses
+pub mod Operators
+pub mod Spelling
+pub mod Actions
+pub mod Asks
+pub mod Prints
+pub mod Spawning
+pub mod CodeStep
+pub mod RunCode
+pub mod Ticked
+pub mod Operations
+pub mod ValidCode

@@ -1,0 +1,14 @@
+//! The code of a script, and what it does on a plain state.
+//!
+//! It stands on `lf_base`, whose specs say what each call on a behaviour's state makes of
+//! it, and on `lf_laws`. Its specs define one instruction over such a state with frames,
+//! ticks, lines and spawns (`CodeStep`), a behaviour run to its end by them (`RunCode`), and
+//! valid and ticked code. `laws` promises that ticked code ends.
+#![tactic(auto)]
+
+mod body;
+mod instr;
+pub mod laws;
+
+pub use body::{Bodies, Body, BodyName, Instrs, Placed};
+pub use instr::{AskName, BuiltName, Instr, Prefix, Vars};
