@@ -11,7 +11,8 @@ use Rattle.lf_code.specs.declared.body.Body.{Body}
 use Rattle.lf_code.specs.declared.body.Placed.{Placed}
 use Rattle.lf_code.specs.declared.instr.Instr.{Instr}
 use Rattle.lf_code.specs.declared.instr.Instr.TheVariants as instr
-use Rattle.lf_code.specs.Actions.{base_of, binary_change, enter, last_truth, leave, pop_value, push_value, test_truth, tick, no_frame_left, unary_change, without_operand}
+use Rattle.lf_code.specs.Actions.{base_of, binary_change, enter, last_truth, leave, pop_value, push_value, test_truth, tick, no_frame_left}
+use Rattle.lf_code.specs.Actions.{unary_change, without_operand}
 use Rattle.lf_code.specs.Asks.{ask_change}
 use Rattle.lf_code.specs.Courses.{Course, Did, Fails, Flow, Next, Return, by_truth, does, on_state, to_state}
 use Rattle.lf_code.specs.Prints.{built}

@@ -1,5 +1,6 @@
 -- What operators make of values.
-use Rattle.std.specs.Prelude.{Bool, None, Option, Some, cond, int_div, int_le, int_lt, int_rem, nat_lt, neg_ℤ, negsuc, not, pos, ℤ, ◌*ℤ◌, ◌+ℤ◌, ◌-ℤ◌, ◌^◌}
+use Rattle.std.specs.Prelude.{Bool, None, Option, Some, cond, int_div, int_le, int_lt, int_rem, nat_lt, neg_ℤ, negsuc, not, pos, ℤ, ◌*ℤ◌}
+use Rattle.std.specs.Prelude.{◌+ℤ◌, ◌-ℤ◌, ◌^◌}
 use Rattle.std.specs.Ordering.{int_eq}
 use Rattle.lf_base.specs.declared.faults.Fault.{Fault}
 use Rattle.lf_base.specs.declared.faults.Fault.TheVariants.{Kind, Overflow, ZeroDivisor}

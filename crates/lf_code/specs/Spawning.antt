@@ -55,7 +55,8 @@ distinct_cowns seen (Cown c ∷ vs) = cond (list_any (same_cown c) seen) (distin
 distinct_cowns seen (_ ∷ vs) = distinct_cowns seen vs
 
 abbrev pub spawn_of : ℕ → List ℕ → List ℕ → State → Spawn
-spawn_of body cowns captures s = record { body = body; cowns = distinct_cowns [] (values_at s cowns); values = values_at s (cowns ++ captures) }
+spawn_of body cowns captures s =
+    record { body = body; cowns = distinct_cowns [] (values_at s cowns); values = values_at s (cowns ++ captures) }
 
 abbrev pub spawn_by : Option Fault → Course → Spawn → Did
 spawn_by (Some fault) c spawn = Faulted fault

@@ -19,7 +19,8 @@ instr_of (Some i) = Some i.instr
 
 -- each instruction that goes to an address not above its own goes to a tick
 abbrev pub IsTicked : List Placed → Type 0
-IsTicked list = (at a : ℕ) (i : Placed) → slice_get list at ≡ Some i → target_of i.instr ≡ Some a → a ≤ at → instr_of (slice_get list a) ≡ Some instr.Tick
+IsTicked list = (at a : ℕ) (i : Placed) → slice_get list at ≡ Some i → target_of i.instr ≡ Some a → a ≤ at
+    → instr_of (slice_get list a) ≡ Some instr.Tick
 
 abbrev pub Ticked : Program → Type 0
 Ticked p = (body : ℕ) → IsTicked (code_at p body)

@@ -1,5 +1,6 @@
 -- Valid code.
-use Rattle.std.specs.Prelude.{Bool, List, None, Option, Some, [], false, length, nat_eq, nat_le, nat_lt, not, slice_get, true, ℕ, ◌&&◌, ◌+◌, ◌-◌, ◌≡◌, ◌∷◌}
+use Rattle.std.specs.Prelude.{Bool, List, None, Option, Some, [], false, length, nat_eq, nat_le, nat_lt, not, slice_get, true, ℕ, ◌&&◌, ◌+◌}
+use Rattle.std.specs.Prelude.{◌-◌, ◌≡◌, ◌∷◌}
 use Rattle.std.specs.List.{AllByRecursion, list_all, list_any}
 use Rattle.lf_base.specs.declared.limits.TheConstants.{MOST_PARTS}
 use Rattle.lf_code.specs.declared.body.Body.{Body}

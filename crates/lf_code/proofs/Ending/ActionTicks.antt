@@ -64,7 +64,8 @@ test_by_within line (Some b) c = omega arith
 pub test_within : (line : ℕ) (c : Course) → Within c.ticks (does line test_truth c)
 test_within line c = test_by_within line (last_truth c) c
 
-pub line_within : (b : Bool) (line : ℕ) (c : Course) (s : State) (ls : List (List ℕ)) → Within c.ticks (flow_of line c (cond b (Does (record c { state = s; lines = ls })) (Faulted OutputFull)))
+pub line_within : (b : Bool) (line : ℕ) (c : Course) (s : State) (ls : List (List ℕ))
+    → Within c.ticks (flow_of line c (cond b (Does (record c { state = s; lines = ls })) (Faulted OutputFull)))
 line_within true line c s ls = omega arith
 line_within false line c s ls = tt
 

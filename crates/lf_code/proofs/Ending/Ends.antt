@@ -1,5 +1,6 @@
 -- Ticked code comes to its end.
-use Rattle.std.proofs.Common.{◌≡◌, ℕ, zero, suc, ◌+◌, ◌-◌, ◌*◌, ◌<◌, ◌≤◌, Bool, true, false, List, [], ◌∷◌, length, map, Option, Some, None, refl, ap, subst, arith}
+use Rattle.std.proofs.Common.{◌≡◌, ℕ, zero, suc, ◌+◌, ◌-◌, ◌*◌, ◌<◌, ◌≤◌, Bool, true, false, List, [], ◌∷◌, length, map, Option, Some, None}
+use Rattle.std.proofs.Common.{refl, ap, subst, arith}
 use Rattle.std.specs.Prelude.{slice_get}
 use Rattle.std.proofs.lemmas.Option.{slice_get_within}
 use Rattle.std.proofs.Math.Nat.{le-max_left, le-max_right}
@@ -9,14 +10,16 @@ use Rattle.lf_code.specs.declared.body.Body.{Body}
 use Rattle.lf_code.specs.declared.body.Placed.{Placed}
 use Rattle.lf_code.specs.declared.instr.Instr.{Instr}
 use Rattle.lf_code.specs.declared.instr.Instr.TheVariants as instr
-use Rattle.lf_code.specs.CodeStep.{Frame, Config, Running, Over, Program, code_step, act, acts, act_at, code_at, list_of, at_address, to_address, return_to, returned, call_by, frames_left, new_frame, vars_at, no_truth, led, IsOver}
+use Rattle.lf_code.specs.CodeStep.{Frame, Config, Running, Over, Program, code_step, act, acts, act_at, code_at, list_of, at_address}
+use Rattle.lf_code.specs.CodeStep.{to_address, return_to, returned, call_by, frames_left, new_frame, vars_at, no_truth, led, IsOver}
 use Rattle.lf_code.specs.Courses.{Course, Did, Does, Faulted, flow_of, does, on_state, to_state, by_truth}
 use Rattle.lf_code.specs.RunCode.{steps, longest, most_steps}
 use Rattle.lf_code.specs.Ticked.{Ticked, target_of, instr_of}
 use Rattle.lf_code.proofs.Ending.ActionTicks.{Within, on_state_within, to_state_within, test_within, spawn_within, built_within}
 use Rattle.lf_base.specs.HeapCalls.{lift_change, load_change, new_object_change, read_change, take_change, unset_change, write_change}
 use Rattle.lf_base.specs.Operands.{popped, pushed, put_down}
-use Rattle.lf_code.specs.Actions.{base_of, binary_change, enter_by, last_truth, leave, pop_value, push_value, test_truth, tick_by, no_frame_left_by, unary_change, without_operand}
+use Rattle.lf_code.specs.Actions.{base_of, binary_change, enter_by, last_truth, leave, pop_value, push_value, test_truth, tick_by}
+use Rattle.lf_code.specs.Actions.{no_frame_left_by, unary_change, without_operand}
 use Rattle.lf_code.specs.Prints.{built}
 use Rattle.lf_code.specs.Asks.{ask_change}
 use Rattle.lf_code.specs.Spawning.{spawn_of, spawns_one, when_fault}
@@ -105,35 +108,46 @@ module _ (p : Program) where
     at_fewer : (d : Course) (a q : ℕ) → d.ticks ≤ c.ticks → rank f.body a < q → measure (at_address f fs a d) < here q
     at_fewer d a q le lt = by_rank d.ticks c.ticks (suc (length fs)) w (rank f.body a) q le lt
 
-    did : (line : ℕ) (x : Did) → Within c.ticks (flow_of line c x) → measure (led (at_address f fs (f.at + 1)) (return_to f fs) (flow_of line c x)) < here (l + 1 - f.at)
+    did : (line : ℕ) (x : Did) → Within c.ticks (flow_of line c x)
+        → measure (led (at_address f fs (f.at + 1)) (return_to f fs) (flow_of line c x)) < here (l + 1 - f.at)
     did line (Does d) h = at_fewer d (f.at + 1) (l + 1 - f.at) h rank_next
     did line (Faulted fault) h = is_positive c.ticks (length fs) (l + 1 - f.at)
 
-    acted : (line : ℕ) (action : Course → Did) → Within c.ticks (does line action c) → measure (acts line action f fs c) < here (l + 1 - f.at)
+    acted : (line : ℕ) (action : Course → Did) → Within c.ticks (does line action c)
+        → measure (acts line action f fs c) < here (l + 1 - f.at)
     acted line action h = did line (action c) h
 
-    ticked : (line n : ℕ) → n ≡ c.ticks → measure (led (at_address f fs (f.at + 1)) (return_to f fs) (flow_of line c (tick_by n c))) < here 0
+    ticked : (line n : ℕ) → n ≡ c.ticks
+        → measure (led (at_address f fs (f.at + 1)) (return_to f fs) (flow_of line c (tick_by n c))) < here 0
     ticked line zero e = is_positive c.ticks (length fs) 0
-    ticked line (suc n) e = subst (λ t. weight n (suc (length fs)) w (rank f.body (f.at + 1)) < weight t (suc (length fs)) w 0) e (by_tick n (suc (length fs)) w (rank f.body (f.at + 1)) 0 (rank_below f.body (f.at + 1)))
+    ticked line (suc n) e = subst (λ t. weight n (suc (length fs)) w (rank f.body (f.at + 1)) < weight t (suc (length fs)) w 0) e
+        (by_tick n (suc (length fs)) w (rank f.body (f.at + 1)) 0 (rank_below f.body (f.at + 1)))
 
-    too_deep_falls : (line n q : ℕ) → measure (led (at_address f fs (f.at + 1)) (return_to f fs) (flow_of line c (no_frame_left_by n c))) < here q
+    too_deep_falls : (line n q : ℕ)
+        → measure (led (at_address f fs (f.at + 1)) (return_to f fs) (flow_of line c (no_frame_left_by n c))) < here q
     too_deep_falls line zero q = is_positive c.ticks (length fs) q
     too_deep_falls line (suc n) q = is_positive c.ticks (length fs) q
 
-    enters : (line body base further n q : ℕ) → n ≡ c.ticks → measure (led (Running (new_frame body base) (to_address f (f.at + 1) ∷ fs)) (return_to f fs) (flow_of line c (enter_by n further c))) < here q
+    enters : (line body base further n q : ℕ) → n ≡ c.ticks
+        → measure (led (Running (new_frame body base) (to_address f (f.at + 1) ∷ fs)) (return_to f fs)
+        (flow_of line c (enter_by n further c))) < here q
     enters line body base further zero q e = is_positive c.ticks (length fs) q
-    enters line body base further (suc n) q e = subst (λ t. weight n (suc (suc (length fs))) w (rank body 0) < weight t (suc (length fs)) w q) e (by_call n (suc (length fs)) w (rank body 0) q (rank_below body 0))
+    enters line body base further (suc n) q e =
+        subst (λ t. weight n (suc (suc (length fs))) w (rank body 0) < weight t (suc (length fs)) w q) e
+        (by_call n (suc (length fs)) w (rank body 0) q (rank_below body 0))
 
     called : (n line body count q : ℕ) → measure (call_by p n line body count f fs c) < here q
     called zero line body count q = too_deep_falls line c.ticks q
     called (suc n) line body count q = enters line body (base_of count c) (vars_at p body - count) c.ticks q refl
 
-    truth_falls : (o : Option Bool) (q : ℕ) (n h k : Course → Config) → measure (n c) < q → measure (h c) < q → measure (k c) < q → measure (by_truth o c n h k) < q
+    truth_falls : (o : Option Bool) (q : ℕ) (n h k : Course → Config) → measure (n c) < q → measure (h c) < q → measure (k c) < q
+        → measure (by_truth o c n h k) < q
     truth_falls None q n h k x y z = x
     truth_falls (Some true) q n h k x y z = y
     truth_falls (Some false) q n h k x y z = z
 
-  returns : (gs : List Frame) (f : Frame) (c : Course) (q : ℕ) → measure (returned gs (leave f.base c)) < weight c.ticks (suc (length gs)) w q
+  returns : (gs : List Frame) (f : Frame) (c : Course) (q : ℕ)
+      → measure (returned gs (leave f.base c)) < weight c.ticks (suc (length gs)) w q
   returns [] f c q = is_positive c.ticks 0 q
   returns (g ∷ gs) f c q = by_return c.ticks (suc (length gs)) w (rank g.body g.at) q (rank_below g.body g.at)
 
@@ -148,22 +162,30 @@ module _ (p : Program) where
     next_is : (d : Course) → d.ticks ≤ c.ticks → measure (at_address f fs (f.at + 1) d) < top
     next_is d le = at_fewer f fs c small d (f.at + 1) (l + 1 - f.at) le (rank_next f fs c small)
 
-    target_is : (a : ℕ) → (a ≤ f.at → instr_of (slice_get (code_at p f.body) a) ≡ Some instr.Tick) → (d : Course) → d.ticks ≤ c.ticks → measure (at_address f fs a d) < top
+    target_is : (a : ℕ) → (a ≤ f.at → instr_of (slice_get (code_at p f.body) a) ≡ Some instr.Tick) → (d : Course) → d.ticks ≤ c.ticks
+        → measure (at_address f fs a d) < top
     target_is a back d le =
         at_fewer f fs c small d a (l + 1 - f.at) le
-        (to_target l f.at a (rank f.body a) small (rank_le l (slice_get (code_at p f.body) a) a) (λ h. rank_tick l (slice_get (code_at p f.body) a) a (back h)))
+        (to_target l f.at a (rank f.body a) small (rank_le l (slice_get (code_at p f.body) a) a)
+            (λ h. rank_tick l (slice_get (code_at p f.body) a) a (back h)))
 
     falls_by : (i : Instr) → ((a : ℕ) → target_of i ≡ Some a → a ≤ f.at → instr_of (slice_get (code_at p f.body) a) ≡ Some instr.Tick)
         → measure (act p line i f fs c) < weight c.ticks (suc (length fs)) w (rank_by l i f.at)
     falls_by instr.Tick back = ticked f fs c small line c.ticks refl
     falls_by instr.None back = acted f fs c small line (push_value value.None) (to_state_within line (pushed (Some value.None)) c)
-    falls_by (instr.Bool b) back = acted f fs c small line (push_value (value.Bool b)) (to_state_within line (pushed (Some (value.Bool b))) c)
+    falls_by (instr.Bool b) back =
+        acted f fs c small line (push_value (value.Bool b)) (to_state_within line (pushed (Some (value.Bool b))) c)
     falls_by (instr.Int n) back = acted f fs c small line (push_value (value.Int n)) (to_state_within line (pushed (Some (value.Int n))) c)
-    falls_by (instr.Text t) back = acted f fs c small line (push_value (value.Text t)) (to_state_within line (pushed (Some (value.Text t))) c)
-    falls_by (instr.Get v) back = acted f fs c small line (on_state (load_change (f.base + v))) (on_state_within line (load_change (f.base + v)) c)
-    falls_by (instr.Take v) back = acted f fs c small line (on_state (lift_change (f.base + v))) (on_state_within line (lift_change (f.base + v)) c)
-    falls_by (instr.Set v) back = acted f fs c small line (to_state (put_down (f.base + v))) (to_state_within line (put_down (f.base + v)) c)
-    falls_by (instr.Drop v) back = acted f fs c small line (on_state (unset_change (f.base + v))) (on_state_within line (unset_change (f.base + v)) c)
+    falls_by (instr.Text t) back =
+        acted f fs c small line (push_value (value.Text t)) (to_state_within line (pushed (Some (value.Text t))) c)
+    falls_by (instr.Get v) back = acted f fs c small line (on_state (load_change (f.base + v)))
+        (on_state_within line (load_change (f.base + v)) c)
+    falls_by (instr.Take v) back =
+        acted f fs c small line (on_state (lift_change (f.base + v))) (on_state_within line (lift_change (f.base + v)) c)
+    falls_by (instr.Set v) back = acted f fs c small line (to_state (put_down (f.base + v)))
+        (to_state_within line (put_down (f.base + v)) c)
+    falls_by (instr.Drop v) back =
+        acted f fs c small line (on_state (unset_change (f.base + v))) (on_state_within line (unset_change (f.base + v)) c)
     falls_by instr.Object back = acted f fs c small line (on_state new_object_change) (on_state_within line new_object_change c)
     falls_by instr.Read back = acted f fs c small line (on_state read_change) (on_state_within line read_change c)
     falls_by instr.Write back = acted f fs c small line (on_state write_change) (on_state_within line write_change c)
@@ -172,26 +194,31 @@ module _ (p : Program) where
     falls_by (instr.Binary op) back = acted f fs c small line (on_state (binary_change op)) (on_state_within line (binary_change op) c)
     falls_by (instr.Jump a) back = target_is a (back a refl) c (omega arith)
     falls_by (instr.Unless a) back =
-        truth_falls f fs c small (last_truth c) top (no_truth line) (λ d. at_address f fs (f.at + 1) (without_operand d)) (λ d. at_address f fs a (without_operand d))
+        truth_falls f fs c small (last_truth c) top (no_truth line) (λ d. at_address f fs (f.at + 1) (without_operand d))
+            (λ d. at_address f fs a (without_operand d))
         nothing (next_is (without_operand c) (omega arith)) (target_is a (back a refl) (without_operand c) (omega arith))
     falls_by (instr.And a) back =
-        truth_falls f fs c small (last_truth c) top (no_truth line) (λ d. at_address f fs (f.at + 1) (without_operand d)) (at_address f fs a)
+        truth_falls f fs c small (last_truth c) top (no_truth line) (λ d. at_address f fs (f.at + 1) (without_operand d))
+            (at_address f fs a)
         nothing (next_is (without_operand c) (omega arith)) (target_is a (back a refl) c (omega arith))
     falls_by (instr.Or a) back =
-        truth_falls f fs c small (last_truth c) top (no_truth line) (at_address f fs a) (λ d. at_address f fs (f.at + 1) (without_operand d))
+        truth_falls f fs c small (last_truth c) top (no_truth line) (at_address f fs a)
+            (λ d. at_address f fs (f.at + 1) (without_operand d))
         nothing (target_is a (back a refl) c (omega arith)) (next_is (without_operand c) (omega arith))
     falls_by instr.Test back = acted f fs c small line test_truth (test_within line c)
     falls_by (instr.Call body count) back = called f fs c small (frames_left fs) line body count (l + 1 - f.at)
     falls_by instr.Return back = returns fs f c (l + 1 - f.at)
     falls_by (instr.Built name count) back = acted f fs c small line (built p.texts name count) (built_within p.texts name count line c)
-    falls_by (instr.Ask name v) back = acted f fs c small line (on_state (ask_change name (f.base + v))) (on_state_within line (ask_change name (f.base + v)) c)
+    falls_by (instr.Ask name v) back =
+        acted f fs c small line (on_state (ask_change name (f.base + v))) (on_state_within line (ask_change name (f.base + v)) c)
     falls_by (instr.When body cowns captures) back =
         let vs = map (λ v. f.base + v) cowns in
         let ws = map (λ v. f.base + v) captures in
         acted f fs c small line (spawns_one body vs ws) (spawn_within (when_fault vs ws c) line c (spawn_of body vs ws c.state))
     falls_by instr.Pop back = acted f fs c small line pop_value (to_state_within line popped c)
 
-  falls_at : Ticked p → (f : Frame) (fs : List Frame) (c : Course) (o : Option Placed) → slice_get (code_at p f.body) f.at ≡ o → measure (act_at p o f fs c) < weight c.ticks (suc (length fs)) w (rank_of l o f.at)
+  falls_at : Ticked p → (f : Frame) (fs : List Frame) (c : Course) (o : Option Placed) → slice_get (code_at p f.body) f.at ≡ o
+      → measure (act_at p o f fs c) < weight c.ticks (suc (length fs)) w (rank_of l o f.at)
   falls_at good f fs c None e = is_positive c.ticks (length fs) 0
   falls_at good f fs c (Some i) e =
       let within : f.at < length (code_at p f.body) = slice_get_within (code_at p f.body) f.at i e in

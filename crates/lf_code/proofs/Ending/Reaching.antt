@@ -19,7 +19,8 @@ module _ (p : Program) where
   on (go r) q = go (on r q)
 
   -- one instruction
-  pub one : (f : Frame) (fs : List Frame) (c : Course) (line : ℕ) (i : Instr) (y : Config) → slice_get (code_at p f.body) f.at ≡ Some (placed line i) → act p line i f fs c ≡ y → Reaches p (Running f fs c) y
+  pub one : (f : Frame) (fs : List Frame) (c : Course) (line : ℕ) (i : Instr) (y : Config)
+      → slice_get (code_at p f.body) f.at ≡ Some (placed line i) → act p line i f fs c ≡ y → Reaches p (Running f fs c) y
   one f fs c line i y at e =
       let made : code_step p (Running f fs c) ≡ y = ap (λ o. act_at p o f fs c) at ∙ e in
       go (subst (λ d. Reaches p d y) (sym made) stop)
