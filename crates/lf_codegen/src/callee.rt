@@ -2,7 +2,9 @@ ghost use Rattle.std.specs.Prelude.{◌≡◌, map};
 ghost use Rattle.lf_codegen.specs.Callees as spec;
 ghost use Rattle.lf_codegen.specs.TablesMean.{built_in_row};
 
+use crate::called::Called;
 use lf_base::MOST_PARTS;
+use lf_code::{AskName, BuiltName};
 
 /// What may be called by one name.
 #[derive(Clone, Copy, Debug, PartialEq, Eq)]
@@ -19,6 +21,7 @@ pub struct Callee {
 struct BuiltIn {
     name: &'static str,
     callee: Callee,
+    called: Called,
 }
 
 const UP_TO_MOST_PARTS: Callee = Callee {
@@ -55,50 +58,62 @@ const BUILT_INS: [BuiltIn; 12] = [
     BuiltIn {
         name: "print",
         callee: UP_TO_MOST_PARTS,
+        called: Called::Built(BuiltName::Print),
     },
     BuiltIn {
         name: "Region",
         callee: NOTHING,
+        called: Called::Built(BuiltName::Region),
     },
     BuiltIn {
         name: "Cown",
         callee: ONE,
+        called: Called::Built(BuiltName::Cown),
     },
     BuiltIn {
         name: "freeze",
         callee: ONE,
+        called: Called::Built(BuiltName::Freeze),
     },
     BuiltIn {
         name: "merge",
         callee: TWO,
+        called: Called::Built(BuiltName::Merge),
     },
     BuiltIn {
         name: "dissolve",
         callee: ONE,
+        called: Called::Built(BuiltName::Dissolve),
     },
     BuiltIn {
         name: "close",
         callee: QUESTION,
+        called: Called::Question(AskName::Close),
     },
     BuiltIn {
         name: "refs",
         callee: QUESTION,
+        called: Called::Question(AskName::Refs),
     },
     BuiltIn {
         name: "borrowed",
         callee: QUESTION,
+        called: Called::Question(AskName::Borrowed),
     },
     BuiltIn {
         name: "open_children",
         callee: QUESTION,
+        called: Called::Question(AskName::OpenChildren),
     },
     BuiltIn {
         name: "owner",
         callee: QUESTION,
+        called: Called::Question(AskName::Owner),
     },
     BuiltIn {
         name: "is_closed",
         callee: QUESTION,
+        called: Called::Question(AskName::IsClosed),
     },
 ];
 

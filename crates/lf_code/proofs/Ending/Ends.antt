@@ -123,10 +123,10 @@ module _ (p : Program) where
     ticked line (suc n) e = subst (λ t. weight n (suc (length fs)) w (rank f.body (f.at + 1)) < weight t (suc (length fs)) w 0) e
         (by_tick n (suc (length fs)) w (rank f.body (f.at + 1)) 0 (rank_below f.body (f.at + 1)))
 
-    too_deep_falls : (line n q : ℕ)
+    no_frame_left_falls : (line n q : ℕ)
         → measure (led (at_address f fs (f.at + 1)) (return_to f fs) (flow_of line c (no_frame_left_by n c))) < here q
-    too_deep_falls line zero q = is_positive c.ticks (length fs) q
-    too_deep_falls line (suc n) q = is_positive c.ticks (length fs) q
+    no_frame_left_falls line zero q = is_positive c.ticks (length fs) q
+    no_frame_left_falls line (suc n) q = is_positive c.ticks (length fs) q
 
     enters : (line body base further n q : ℕ) → n ≡ c.ticks
         → measure (led (Running (new_frame body base) (to_address f (f.at + 1) ∷ fs)) (return_to f fs)
@@ -137,7 +137,7 @@ module _ (p : Program) where
         (by_call n (suc (length fs)) w (rank body 0) q (rank_below body 0))
 
     called : (n line body count q : ℕ) → measure (call_by p n line body count f fs c) < here q
-    called zero line body count q = too_deep_falls line c.ticks q
+    called zero line body count q = no_frame_left_falls line c.ticks q
     called (suc n) line body count q = enters line body (base_of count c) (vars_at p body - count) c.ticks q refl
 
     truth_falls : (o : Option Bool) (q : ℕ) (n h k : Course → Config) → measure (n c) < q → measure (h c) < q → measure (k c) < q
