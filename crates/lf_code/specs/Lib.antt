@@ -10,3 +10,6 @@ pub mod RunCode
 pub mod Ticked
 pub mod Operations
 pub mod ValidCode
+pub mod OperandWalk
+pub mod VarSets
+pub mod Checking

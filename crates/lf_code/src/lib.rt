@@ -7,8 +7,13 @@
 #![tactic(auto)]
 
 mod body;
+mod code;
+mod fits;
 mod instr;
+mod operand_counts;
 pub mod laws;
+mod var_set;
 
 pub use body::{Bodies, Body, BodyName, Instrs, Placed};
+pub use code::{Code, CodeFail};
 pub use instr::{AskName, BuiltName, Instr, Prefix, Vars};
