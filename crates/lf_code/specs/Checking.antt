@@ -1,5 +1,5 @@
 -- What a check of code answers.
-use Rattle.std.specs.Prelude.{Bool, Err, List, Ok, Result, false, true, ◌≡◌}
+use Rattle.std.specs.Prelude.{Err, List, Ok, Result, ◌≡◌}
 use Rattle.lf_base.specs.Texts.{Text}
 use Rattle.lf_code.specs.declared.body.Body.{Body}
 use Rattle.lf_code.specs.declared.code.CodeFail.{CodeFail}

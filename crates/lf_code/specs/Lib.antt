@@ -13,3 +13,4 @@ pub mod ValidCode
 pub mod OperandWalk
 pub mod VarSets
 pub mod Checking
+pub mod Listing

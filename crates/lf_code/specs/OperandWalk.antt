@@ -1,5 +1,5 @@
 -- A walk over code along all its ways: what it has seen of the operands at each address, and what it has still to follow.
-use Rattle.std.specs.Prelude.{Bool, List, None, Option, Some, [], count_by, false, is_some, length, not, slice_get, true, ℕ, ◌+◌, ◌-◌, ◌≡◌, ◌≤◌, ◌⊎◌}
+use Rattle.std.specs.Prelude.{Bool, List, Option, Some, count_by, false, is_some, length, not, slice_get, true, ℕ, ◌+◌, ◌-◌, ◌≡◌, ◌≤◌, ◌⊎◌}
 use Rattle.lf_base.specs.Sets.{Member}
 use Rattle.lf_code.specs.declared.body.Placed.{Placed}
 use Rattle.lf_code.specs.Operations.{HasOperands, IsReached, Way, needs, way, ways}

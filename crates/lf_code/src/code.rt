@@ -70,6 +70,13 @@ impl Code {
         self.bodies.get(number as usize)
     }
 
+    /// All bodies, each at its number.
+    pub fn bodies(&self) -> &[Body]
+        ensures { result.now ≡ self.now.bodies }
+    {
+        self.bodies.as_slice()
+    }
+
     /// The texts of the script.
     pub fn texts(&self) -> &Texts
         ensures { result.now ≡ self.now.texts }

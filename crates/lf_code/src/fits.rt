@@ -157,12 +157,7 @@ fn ends_in_return(list: &[Placed]) -> bool
     }
 }
 
-fn body_fits(
-    alloc: Global,
-    bodies: &[Body],
-    texts: usize,
-    body: &Body,
-) -> Result<bool, OutOfMemory>
+fn body_fits(alloc: Global, bodies: &[Body], texts: usize, body: &Body) -> Result<bool, OutOfMemory>
     ensures { IfOk result (λ fits. fits ≡ spec.body_fits bodies.now texts body.now) }
 {
     if body.params > body.vars || !ends_in_return(body.list.as_slice()) {

@@ -10,10 +10,12 @@ mod body;
 mod code;
 mod fits;
 mod instr;
-mod operand_counts;
 pub mod laws;
+mod listing;
+mod operand_counts;
 mod var_set;
 
 pub use body::{Bodies, Body, BodyName, Instrs, Placed};
 pub use code::{Code, CodeFail};
 pub use instr::{AskName, BuiltName, Instr, Prefix, Vars};
+pub use listing::write_listing;

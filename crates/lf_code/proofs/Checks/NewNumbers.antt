@@ -1,8 +1,7 @@
 -- Numbers that are new, one after another, differ from each other and from those that were known.
 use Rattle.std.proofs.Common.{Bool, List, [], ap, ap₂, arith, drop, false, get_or, length, nat_eq, not, refl, subst, suc, sym, take, true, ℕ, ◌&&◌, ◌++◌, ◌+◌, ◌<◌, ◌||◌, ◌∙◌, ◌∷◌, ◌≡◌, ◌≤◌}
-use Rattle.std.specs.List.{list_all, list_any}
 use Rattle.std.proofs.lemmas.List.Folds.{list_any-append}
-use Rattle.std.proofs.lemmas.List.{append_assoc, drop_all, take_all, take_more}
+use Rattle.std.proofs.lemmas.List.{append_assoc, drop_all, take_more}
 use Rattle.std.proofs.Math.Seq.{drop-cons}
 use Rattle.lf_code.specs.declared.var_set.VarSet.{VarSet}
 use Rattle.lf_code.specs.ValidCode.{all_differ, are_apart}
@@ -59,10 +58,10 @@ both_lists cowns captures e =
 pub first_list_fails : (cowns captures : List ℕ) → all_new [] captures ≡ false → false ≡ (all_differ cowns && (all_differ captures && are_apart cowns captures))
 first_list_fails cowns captures e =
     never (all_differ cowns) ∙ ap (λ b. all_differ cowns && (b && are_apart cowns captures)) (sym e ∙ first_are_new captures)
-    where
-      never : (a : Bool) → false ≡ (a && false)
-      never true = refl
-      never false = refl
+  where
+    never : (a : Bool) → false ≡ (a && false)
+    never true = refl
+    never false = refl
 
 -- ---- a loop that puts them in
 

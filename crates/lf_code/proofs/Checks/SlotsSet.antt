@@ -1,5 +1,5 @@
 -- What is found in a list after one place of it was set.
-use Rattle.std.proofs.Common.{List, None, Option, Some, [], ap, refl, set, suc, zero, ℕ, ◌∷◌, ◌≡◌}
+use Rattle.std.proofs.Common.{List, Some, [], ap, refl, set, suc, zero, ℕ, ◌∷◌, ◌≡◌}
 use Rattle.std.specs.List.{slice_get}
 
 pub set_here : {X : Type 0} (xs : List X) (i : ℕ) (v x : X) → slice_get xs i ≡ Some x → slice_get (set xs i v) i ≡ Some v

@@ -1,10 +1,10 @@
 -- The steps of a walk over code along all its ways, and what its end says of the code.
 use Rattle.std.proofs.Common.{Bool, List, None, Option, Some, [], ap, arith, cond, false, get_or, inl, inr, is_some, length, nat_eq, not, refl, replicate, set, subst, suc, sym, true, unwrap_or, zero, ℕ, ◌++◌, ◌+◌, ◌-◌, ◌<◌, ◌∙◌, ◌∷◌, ◌≡◌, ◌≤◌, ◌⊎◌}
-use Rattle.std.specs.List.{count_by, slice_get}
+use Rattle.std.specs.List.{slice_get}
 use Rattle.std.proofs.lemmas.Bool.{cases_eq}
 use Rattle.std.proofs.lemmas.List.{get_or-replicate, length-append, length-replicate, length-set}
 use Rattle.std.proofs.lemmas.List.Sums.{count_by-le-length, sum_by-set}
-use Rattle.std.proofs.lemmas.Option.{slice_get_past, slice_get_within, unwrap_or-slice_get}
+use Rattle.std.proofs.lemmas.Option.{slice_get_within, unwrap_or-slice_get}
 use Rattle.lf_base.specs.Sets.{Member}
 use Rattle.lf_base.proofs.ListLemmas.Members.{Member_left, Member_of_append, Member_right}
 use Rattle.lf_base.proofs.ListLemmas.Tests.{some_is}
@@ -22,8 +22,11 @@ found_or xs i x d e = sym (unwrap_or-slice_get xs i d) ∙ ap (λ t. unwrap_or t
 
 fewer_unseen : (counts : List (Option ℕ)) (to n : ℕ) → slice_get counts to ≡ Some None → unseen (set counts to (Some n)) + 1 ≡ unseen counts
 fewer_unseen counts to n e =
-    omega (arith, ap {B = ℕ} (λ t. cond (not (is_some t)) 1 0) (found_or counts to None None e),
-    sum_by-set (λ c. cond (not (is_some c)) 1 0) counts to (Some n) None (slice_get_within counts to None e))
+    omega (
+      arith,
+      ap {B = ℕ} (λ t. cond (not (is_some t)) 1 0) (found_or counts to None None e),
+      sum_by-set (λ c. cond (not (is_some c)) 1 0) counts to (Some n) None (slice_get_within counts to None e),
+    )
 
 pub no_more_left : (counts : List (Option ℕ)) (left : List ℕ) (to n : ℕ) → slice_get counts to ≡ Some None
     → left_over (set counts to (Some n)) (left ++ to ∷ []) ≤ left_over counts left
@@ -265,10 +268,13 @@ module _ (list : List Placed) (counts : List (Option ℕ)) (left : List ℕ) (at
     where
       moved : {a : ℕ} (j : Placed) → at ≡ a → slice_get list a ≡ Some j → slice_get list at ≡ Some j
       moved j same g = subst (λ t. slice_get list t ≡ Some j) (sym same) g
+
       one_count : (a e : ℕ) → at ≡ a → IsSeen counts a e → e ≡ d
       one_count a e same s = one_seen counts at e d (subst (λ t. IsSeen counts t e) (sym same) s) here
+
       enough_there : (a e : ℕ) (j : Placed) → at ≡ a → IsSeen counts a e → slice_get list a ≡ Some j → needs j.instr ≤ e
       enough_there a e j same s g = subst (λ x. needs x.instr ≤ e) (sym (one_instr j (moved j same g))) (subst (λ n. needs i.instr ≤ n) (sym (one_count a e same s)) enough_here)
+
       way_there : (a e : ℕ) (j : Placed) (w : Way) → at ≡ a → IsSeen counts a e → slice_get list a ≡ Some j
           → Member w (ways j.instr a (e - needs j.instr)) → Member w (ways i.instr at (d - needs i.instr))
       way_there a e j w same s g m =
