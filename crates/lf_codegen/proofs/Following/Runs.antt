@@ -341,7 +341,8 @@ module _ (s : Source) (vars : List Name) (call : Callee) (calls_within : CallsWi
             (both_within_to d.ticks (spot (past + 1) (without_operand d)) last b (of_body (without_operand d))
                 (turns k line condition of_body) (body_within (without_operand d)) (run_body (without_operand d))
               (λ e le. on p (one p (frame last) fs e line (instr.Jump top) (spot top e) at_last refl)
-                (turns_run line top past last b condition of_body at_top at_past at_last run_condition run_body condition_within body_within k e (omega (arith, le, fewer, lt)))))
+                (turns_run line top past last b condition of_body at_top at_past at_last run_condition run_body condition_within body_within
+                    k e (omega (arith, le, fewer, lt)))))
             stop))
     where
       both_within_to : (t : ℕ) (x : Config) (m b : ℕ) (o : Flow) (f : Course → Flow) → Within t o → To x m o
