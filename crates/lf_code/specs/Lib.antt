@@ -8,5 +8,6 @@ pub mod Spawning
 pub mod CodeStep
 pub mod RunCode
 pub mod Ticked
+pub mod DroppingOnce
 pub mod Operations
 pub mod ValidCode

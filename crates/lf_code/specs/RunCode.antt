@@ -73,4 +73,4 @@ config_result (Running f fs c) = result_of c None
 abbrev pub run_code : Program → ℕ → Job → List (CownId × Parked) → List Row → RunResult
 run_code p ticks job contents given =
     config_result (steps p (most_steps p ticks)
-        (Running (new_frame job.body 0) [] (first_course job contents given (vars_at p job.body) ticks)))
+    (Running (new_frame job.body 0) [] (first_course job contents given (vars_at p job.body) ticks)))

@@ -167,7 +167,7 @@ module _ (p : Program) where
     target_is a back d le =
         at_fewer f fs c small d a (l + 1 - f.at) le
         (to_target l f.at a (rank f.body a) small (rank_le l (slice_get (code_at p f.body) a) a)
-            (λ h. rank_tick l (slice_get (code_at p f.body) a) a (back h)))
+        (λ h. rank_tick l (slice_get (code_at p f.body) a) a (back h)))
 
     falls_by : (i : Instr) → ((a : ℕ) → target_of i ≡ Some a → a ≤ f.at → instr_of (slice_get (code_at p f.body) a) ≡ Some instr.Tick)
         → measure (act p line i f fs c) < weight c.ticks (suc (length fs)) w (rank_by l i f.at)
@@ -195,15 +195,15 @@ module _ (p : Program) where
     falls_by (instr.Jump a) back = target_is a (back a refl) c (omega arith)
     falls_by (instr.Unless a) back =
         truth_falls f fs c small (last_truth c) top (no_truth line) (λ d. at_address f fs (f.at + 1) (without_operand d))
-            (λ d. at_address f fs a (without_operand d))
+        (λ d. at_address f fs a (without_operand d))
         nothing (next_is (without_operand c) (omega arith)) (target_is a (back a refl) (without_operand c) (omega arith))
     falls_by (instr.And a) back =
         truth_falls f fs c small (last_truth c) top (no_truth line) (λ d. at_address f fs (f.at + 1) (without_operand d))
-            (at_address f fs a)
+        (at_address f fs a)
         nothing (next_is (without_operand c) (omega arith)) (target_is a (back a refl) c (omega arith))
     falls_by (instr.Or a) back =
         truth_falls f fs c small (last_truth c) top (no_truth line) (at_address f fs a)
-            (λ d. at_address f fs (f.at + 1) (without_operand d))
+        (λ d. at_address f fs (f.at + 1) (without_operand d))
         nothing (target_is a (back a refl) c (omega arith)) (next_is (without_operand c) (omega arith))
     falls_by instr.Test back = acted f fs c small line test_truth (test_within line c)
     falls_by (instr.Call body count) back = called f fs c small (frames_left fs) line body count (l + 1 - f.at)
