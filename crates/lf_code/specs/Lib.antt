@@ -1,4 +1,4 @@
-pub mod Courses
+pub mod Progress
 pub mod Operators
 pub mod Spelling
 pub mod Actions

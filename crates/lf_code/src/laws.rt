@@ -12,7 +12,7 @@ ghost use Rattle.lf_code.specs.declared.instr.Prefix.{Prefix};
 ghost use Rattle.lf_code.specs.Actions.{binary_change, brought_down, left_down_to, pops, unary_change, unset_pushed};
 ghost use Rattle.lf_code.specs.Asks.{none_pushed};
 ghost use Rattle.lf_code.specs.CodeStep.{Config, IsOver, Program, Running, new_frame};
-ghost use Rattle.lf_code.specs.Courses.{Course};
+ghost use Rattle.lf_code.specs.Progress.{Progress};
 ghost use Rattle.lf_code.specs.DroppingOnce.{IsPlain, closed_once, entered_once, left_once, replaced_once};
 ghost use Rattle.lf_code.specs.Operators.{binary, unary};
 ghost use Rattle.lf_code.specs.RunCode.{most_steps, steps};
@@ -21,7 +21,7 @@ ghost use Rattle.lf_code.specs.Ticked.{Ticked};
 /// Ticked code is over after a number of steps that its ticks and its longest body bound,
 /// from the start of each body.
 pub fn ticked_code_ends()
-    ensures { (p : Program) (body base : ℕ) (c : Course) → Ticked p →
+    ensures { (p : Program) (body base : ℕ) (c : Progress) → Ticked p →
         IsOver (steps p (most_steps p c.ticks) (Running (new_frame body base) [] c)) }
 {}
 

@@ -7,9 +7,9 @@ use Rattle.lf_parser.specs.declared.stmt.Stmt.{Stmt}
 use Rattle.lf_codegen.specs.GeneratedCode.{is_empty_block}
 use Rattle.lf_codegen.specs.Mentions.{args_count}
 
-pub count_of_args : (es : List Expr) → args_count (args_of (map plain_expr es)) ≡ length es
-count_of_args [] = refl
-count_of_args (e ∷ es) = ap suc (count_of_args es)
+pub args_are_counted : (es : List Expr) → args_count (args_of (map plain_expr es)) ≡ length es
+args_are_counted [] = refl
+args_are_counted (e ∷ es) = ap suc (args_are_counted es)
 
 pub mapped_next : {A B : Type 0} (f : A → B) (xs : List A) (i : ℕ) (d : A) (old new : List B) → i < length xs
     → new ≡ old ++ f (get_or xs i d) ∷ [] → new ++ map f (drop (i + 1) xs) ≡ old ++ map f (drop i xs)

@@ -11,8 +11,8 @@ use Rattle.lf_parser.specs.declared.stmt.Stmt.TheFolds.{fold-roll-Stmt}
 use Rattle.lf_parser.specs.declared.stmt.Stmt.TheOpen.{Stmt-F}
 use Rattle.lf_code.specs.declared.body.Placed.{Placed}
 use Rattle.lf_code.specs.declared.instr.Instr.TheVariants as instr
-use Rattle.lf_code.specs.CodeStep.{placed}
-use Rattle.lf_codegen.specs.Numbers.{Source}
+use Rattle.lf_code.specs.CodeStep.{on_line}
+use Rattle.lf_codegen.specs.Numbers.{PlainScript}
 use Rattle.lf_codegen.specs.GeneratedCode.{branches_code, round_code, is_empty_block, expr_code, stmt_code, block_code}
 use Rattle.lf_emit.specs.Left.{patched}
 use Rattle.lf_emit.proofs.Pieces.{seq_emits, if_alone, if_both, go_round}
@@ -31,8 +31,9 @@ pub on_ok : {T E A B : Type 0} (r : Result T E) → (A → B) → OnOk r A → O
 on_ok (Ok t) f h = f h
 on_ok (Err e) f h = tt
 
-module _ (s : Source) (vars : List Name) (line : ℕ) (t : PlainExpr) (y n : PlainBlock) (a b c d : List Placed) (at : ℕ)
-    (opened : c ≡ b ++ placed line (instr.Unless 0) ∷ []) (is_at : at ≡ length b) (has_body : d ≡ c ++ block_code s vars y (length c)) where
+module _ (s : PlainScript) (vars : List Name) (line : ℕ) (t : PlainExpr) (y n : PlainBlock) (a b c d : List Placed) (at : ℕ)
+    (opened : c ≡ b ++ on_line line (instr.Unless 0) ∷ []) (is_at : at ≡ length b)
+    (has_body : d ≡ c ++ block_code s vars y (length c)) where
   abbrev test : ℕ → List Placed
   test m = expr_code s vars t line m
 
@@ -40,19 +41,20 @@ module _ (s : Source) (vars : List Name) (line : ℕ) (t : PlainExpr) (y n : Pla
   abbrev whole : Bool → List Placed
   whole k =
       let past = length a + 1 + length (test (length a + 1)) in
-      a ++ placed line instr.Tick ∷ (test (length a + 1)
+      a ++ on_line line instr.Tick ∷ (test (length a + 1)
       ++ branches_code k line past (block_code s vars y (past + 1))
       (block_code s vars n (past + 1 + length (block_code s vars y (past + 1)) + 1)))
 
-  pub if_alone_code : (e : List Placed) → b ≡ a ++ placed line instr.Tick ∷ expr_code s vars t line (length a + 1) → true ≡ is_empty_block n
+  pub if_alone_code : (e : List Placed) → b ≡ a ++ on_line line instr.Tick ∷ expr_code s vars t line (length a + 1)
+      → true ≡ is_empty_block n
       → e ≡ patched at line (instr.Unless (length d)) d → e ≡ a ++ stmt_code s vars (plain.If line t y n) (length a)
   if_alone_code e tested none h =
       if_alone line test a b tested (instr.Unless 0) (block_code s vars y) c d e at opened is_at has_body (block_code s vars n) h
       ∙ ap whole none
 
-  pub if_both_code : (e x z : List Placed) (skip : ℕ) → b ≡ a ++ placed line instr.Tick ∷ expr_code s vars t line (length a + 1)
+  pub if_both_code : (e x z : List Placed) (skip : ℕ) → b ≡ a ++ on_line line instr.Tick ∷ expr_code s vars t line (length a + 1)
       → false ≡ is_empty_block n
-      → e ≡ patched at line (instr.Unless (length d + 1)) (d ++ placed line (instr.Jump 0) ∷ []) → skip ≡ length d
+      → e ≡ patched at line (instr.Unless (length d + 1)) (d ++ on_line line (instr.Jump 0) ∷ []) → skip ≡ length d
       → x ≡ e ++ block_code s vars n (length e) → z ≡ patched skip line (instr.Jump (length x)) x
       → z ≡ a ++ stmt_code s vars (plain.If line t y n) (length a)
   if_both_code e x z skip tested some h is_skip hx hz =
@@ -60,16 +62,16 @@ module _ (s : Source) (vars : List Name) (line : ℕ) (t : PlainExpr) (y n : Pla
       (block_code s vars n) skip x z h is_skip hx hz
       ∙ ap whole some
 
-  pub while_code : (o e : List Placed) (top : ℕ) → o ≡ a ++ placed line instr.Tick ∷ [] → top ≡ length o
-      → b ≡ o ++ placed line instr.Tick ∷ expr_code s vars t line (length o + 1)
-      → e ≡ patched at line (instr.Unless (length d + 1)) (d ++ placed line (instr.Jump top) ∷ [])
+  pub while_code : (o e : List Placed) (top : ℕ) → o ≡ a ++ on_line line instr.Tick ∷ [] → top ≡ length o
+      → b ≡ o ++ on_line line instr.Tick ∷ expr_code s vars t line (length o + 1)
+      → e ≡ patched at line (instr.Unless (length d + 1)) (d ++ on_line line (instr.Jump top) ∷ [])
       → e ≡ a ++ stmt_code s vars (plain.While line t y) (length a)
   while_code o e top begun is_top tested h =
-      seq_emits (λ m. placed line instr.Tick ∷ [])
-      (λ m. placed line instr.Tick ∷
+      seq_emits (λ m. on_line line instr.Tick ∷ [])
+      (λ m. on_line line instr.Tick ∷
       (test (m + 1) ++ round_code line m (m + 1 + length (test (m + 1)))
       (block_code s vars y (m + 1 + length (test (m + 1)) + 1)))) a o e begun
       (go_round line test o b tested (instr.Unless 0) (block_code s vars y) c d e at opened is_at has_body top h
-      ∙ ap (λ k. o ++ placed line instr.Tick ∷
+      ∙ ap (λ k. o ++ on_line line instr.Tick ∷
       (test (length o + 1) ++ round_code line k (length o + 1 + length (test (length o + 1)))
       (block_code s vars y (length o + 1 + length (test (length o + 1)) + 1)))) is_top)

@@ -7,11 +7,11 @@ use Rattle.lf_code.specs.declared.body.Placed.{Placed}
 use Rattle.lf_code.specs.declared.instr.Instr.{Instr}
 use Rattle.lf_code.specs.declared.instr.Instr.TheVariants as instr
 use Rattle.lf_code.specs.declared.instr.Prefix.TheVariants.{Neg, Not}
-use Rattle.lf_code.specs.CodeStep.{placed}
+use Rattle.lf_code.specs.CodeStep.{on_line}
 use Rattle.lf_codegen.specs.Mentions.{args_count}
 use Rattle.lf_codegen.specs.declared.called.Called.{Called}
 use Rattle.lf_codegen.specs.declared.called.Called.TheVariants.{Built, Question, Function}
-use Rattle.lf_codegen.specs.Numbers.{Source, var_number, called_of, asked_number}
+use Rattle.lf_codegen.specs.Numbers.{PlainScript, var_number, called_of, asked_number}
 use Rattle.lf_codegen.specs.GeneratedCode.{expr_code}
 use Rattle.lf_emit.specs.declared.work.Joint.{Joint}
 use Rattle.lf_emit.specs.declared.work.Joint.TheVariants.{And, Or}
@@ -20,7 +20,7 @@ use Rattle.lf_emit.specs.declared.work.Work.TheVariants as work
 
 -- another instruction at an address, if there is one
 abbrev pub patched : ℕ → ℕ → Instr → List Placed → List Placed
-patched at line i out = slice_set out at (placed line i)
+patched at line i out = slice_set out at (on_line line i)
 
 abbrev pub jump_of : Joint → ℕ → Instr
 jump_of And at = instr.And at
@@ -32,30 +32,30 @@ pub data Left : Type 0 where
   Second : Joint → PlainExpr → Left
   Land : Joint → ℕ → Left
 
-abbrev pub left_of : Work → Left
-left_of (work.Code e) = Code (plain_expr e.now)
-left_of (work.Put i) = Put i
-left_of (work.Second j e) = Second j (plain_expr e.now)
-left_of (work.Land j at) = Land j at
+abbrev pub left_from_work : Work → Left
+left_from_work (work.Code e) = Code (plain_expr e.now)
+left_from_work (work.Put i) = Put i
+left_from_work (work.Second j e) = Second j (plain_expr e.now)
+left_from_work (work.Land j at) = Land j at
 
 abbrev pub all_left : List Work → List Left
-all_left ws = map left_of ws
+all_left ws = map left_from_work ws
 
 -- arguments, the last one first
-abbrev pub args_back : PlainArgs → List Left
-args_back no_args = []
-args_back (arg e es) = args_back es ++ Code e ∷ []
+abbrev pub args_left : PlainArgs → List Left
+args_left no_args = []
+args_left (arg e es) = args_left es ++ Code e ∷ []
 
-module _ (s : Source) (vars : List Name) where
+module _ (s : PlainScript) (vars : List Name) where
   -- the instruction of an expression that has no parts
   abbrev pub own_call : Called → PlainArgs → List Instr
   own_call (Question name) es = instr.Ask name (asked_number vars es) ∷ []
   own_call _ es = []
 
   abbrev pub parts_of_call : Called → PlainArgs → List Left
-  parts_of_call (Built name) es = Put (instr.Built name (args_count es)) ∷ args_back es
+  parts_of_call (Built name) es = Put (instr.Built name (args_count es)) ∷ args_left es
   parts_of_call (Question name) es = []
-  parts_of_call (Function body) es = Put (instr.Call body (args_count es)) ∷ args_back es
+  parts_of_call (Function body) es = Put (instr.Call body (args_count es)) ∷ args_left es
 
   abbrev pub own_instrs : PlainExpr → List Instr
   own_instrs plain.Nothing = instr.None ∷ []
@@ -85,10 +85,10 @@ module _ (s : Source) (vars : List Name) where
     -- the code with one piece more
     abbrev pub more : Left → List Placed → List Placed
     more (Code e) out = out ++ expr_code s vars e line (length out)
-    more (Put i) out = out ++ placed line i ∷ []
+    more (Put i) out = out ++ on_line line i ∷ []
     more (Second j e) out =
         let ce = expr_code s vars e line (length out + 1) in
-        out ++ placed line (jump_of j (length out + 1 + length ce + 1)) ∷ (ce ++ placed line instr.Test ∷ [])
+        out ++ on_line line (jump_of j (length out + 1 + length ce + 1)) ∷ (ce ++ on_line line instr.Test ∷ [])
     more (Land j at) out = patched at line (jump_of j (length out)) out
 
     -- the code with all that is left, the last one first
@@ -98,9 +98,9 @@ module _ (s : Source) (vars : List Name) where
 
     -- what a piece emits at once, and what it leaves
     abbrev pub at_once : Left → List Placed → List Placed
-    at_once (Code e) out = out ++ map (placed line) (own_instrs e)
-    at_once (Put i) out = out ++ placed line i ∷ []
-    at_once (Second j e) out = out ++ placed line (jump_of j 0) ∷ []
+    at_once (Code e) out = out ++ map (on_line line) (own_instrs e)
+    at_once (Put i) out = out ++ on_line line i ∷ []
+    at_once (Second j e) out = out ++ on_line line (jump_of j 0) ∷ []
     at_once (Land j at) out = patched at line (jump_of j (length out)) out
 
     abbrev pub later : Left → ℕ → List Left

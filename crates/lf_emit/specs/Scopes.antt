@@ -6,10 +6,10 @@ use Rattle.lf_parser.specs.declared.name.Name.{Name}
 use Rattle.lf_parser.specs.declared.tree.Tree.{Tree}
 use Rattle.lf_parser.specs.Plain.{PlainBlock, PlainTree, plain_tree}
 use Rattle.lf_codegen.specs.Frames.{frame_line, when_frames}
-use Rattle.lf_codegen.specs.Numbers.{NamedFrame, Source}
+use Rattle.lf_codegen.specs.Numbers.{NamedFrame, PlainScript}
 
-abbrev pub source_of : List Text → Tree → Source
-source_of texts tree = record { texts = texts; tree = plain_tree tree }
+abbrev pub plain_script : List Text → Tree → PlainScript
+plain_script texts tree = record { texts = texts; tree = plain_tree tree }
 
 abbrev pub frame_with : BodyName → List Name → PlainBlock → NamedFrame
 frame_with name own body = record { name = name; frame = record { line = 0; own = own; body = body } }

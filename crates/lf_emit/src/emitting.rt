@@ -2,11 +2,11 @@
 
 ghost use Rattle.std.specs.Prelude.{◌≡◌, ◌++◌, ◌∷◌, [], length, map, IfOk, OnOk};
 ghost use Rattle.lf_parser.specs.Plain.{args_of, plain_expr};
-ghost use Rattle.lf_code.specs.CodeStep.{placed};
+ghost use Rattle.lf_code.specs.CodeStep.{on_line};
 ghost use Rattle.lf_codegen.specs.GeneratedCode.{expr_code};
 ghost use Rattle.lf_codegen.specs.Mentions.{args_count};
 ghost use Rattle.lf_code.specs.declared.instr.Instr.TheVariants as instr;
-ghost use Rattle.lf_emit.specs.Left.{all_left, args_back, at_once, jump_of, later, left_of, own_call, own_instrs, parts_of, parts_of_call};
+ghost use Rattle.lf_emit.specs.Left.{all_left, args_left, at_once, jump_of, later, left_from_work, own_call, own_instrs, parts_of, parts_of_call};
 ghost use Rattle.lf_emit.specs.Left as left;
 
 use crate::numbering::Numbering;
@@ -21,7 +21,7 @@ type Works<'t> = Vec<Work<'t>>;
 
 // Leaves a piece to be emitted next.
 fn leave<'t>(works: &mut Works<'t>, work: Work<'t>) -> Result<(), OutOfMemory>
-    ensures { OnOk result (all_left works.new.items ≡ all_left works.old.items ++ left_of work.entry ∷ []) }
+    ensures { OnOk result (all_left works.new.items ≡ all_left works.old.items ++ left_from_work work.entry ∷ []) }
 {
     Ok(works.push(work)?)
 }
@@ -71,7 +71,7 @@ fn leave_joint<'t>(
 
 // Leaves arguments, the first one next.
 fn leave_args<'t>(works: &mut Works<'t>, args: &'t [Expr]) -> Result<(), OutOfMemory>
-    ensures { OnOk result (all_left works.new.items ≡ all_left works.old.items ++ args_back (args_of (map plain_expr args.now))) }
+    ensures { OnOk result (all_left works.new.items ≡ all_left works.old.items ++ args_left (args_of (map plain_expr args.now))) }
 {
     match args {
         [] => Ok(()),
@@ -85,14 +85,14 @@ fn leave_args<'t>(works: &mut Works<'t>, args: &'t [Expr]) -> Result<(), OutOfMe
 // An instruction after arguments.
 fn leave_call<'t>(works: &mut Works<'t>, instr: Instr, args: &'t [Expr]) -> Result<(), OutOfMemory>
     ensures { OnOk result (all_left works.new.items ≡ all_left works.old.items
-        ++ left.Put instr ∷ args_back (args_of (map plain_expr args.now))) }
+        ++ left.Put instr ∷ args_left (args_of (map plain_expr args.now))) }
 {
     leave(works, Work::Put(instr))?;
     leave_args(works, args)
 }
 
 // The number of arguments.
-#[tactic(auto, using(crate::proofs::Counts::count_of_args))]
+#[tactic(auto, using(crate::proofs::Counts::args_are_counted))]
 fn count(args: &[Expr]) -> Result<u32, OutOfMemory>
     ensures { IfOk result (λ n. n ≡ args_count (args_of (map plain_expr args.now))) }
 {
@@ -111,7 +111,7 @@ fn visit_call<'t, N: Numbering>(
     line: u32,
 ) -> Result<(), OutOfMemory>
     ensures own { OnOk result (out.new.items ≡ out.old.items
-        ++ map (placed line) (own_call (N.source names.now) (N.vars names.now) called (args_of (map plain_expr args.now)))) }
+        ++ map (on_line line) (own_call (N.source names.now) (N.vars names.now) called (args_of (map plain_expr args.now)))) }
     ensures parts { OnOk result (all_left works.new.items ≡ all_left works.old.items
         ++ parts_of_call (N.source names.now) (N.vars names.now) called (args_of (map plain_expr args.now))) }
 {
@@ -140,7 +140,7 @@ fn visit<'t, N: Numbering>(
     line: u32,
 ) -> Result<(), OutOfMemory>
     ensures own { OnOk result (out.new.items ≡ out.old.items
-        ++ map (placed line) (own_instrs (N.source names.now) (N.vars names.now) (plain_expr expr.now))) }
+        ++ map (on_line line) (own_instrs (N.source names.now) (N.vars names.now) (plain_expr expr.now))) }
     ensures parts { OnOk result (all_left works.new.items ≡ all_left works.old.items
         ++ parts_of (N.source names.now) (N.vars names.now) (plain_expr expr.now)) }
 {
@@ -195,7 +195,7 @@ fn second<'t>(
     operand: &'t Expr,
     line: u32,
 ) -> Result<(), OutOfMemory>
-    ensures own { OnOk result (out.new.items ≡ out.old.items ++ placed line (jump_of joint 0) ∷ []) }
+    ensures own { OnOk result (out.new.items ≡ out.old.items ++ on_line line (jump_of joint 0) ∷ []) }
     ensures parts { OnOk result (all_left works.new.items ≡ all_left works.old.items
         ++ left.Land joint (length out.old.items) ∷ left.Put instr.Test ∷ left.Code (plain_expr operand.now) ∷ []) }
 {
@@ -218,9 +218,9 @@ fn emit_next<'t, N: Numbering>(
     work: Work<'t>,
     line: u32,
 ) -> Result<(), OutOfMemory>
-    ensures own { OnOk result (out.new.items ≡ at_once (N.source names.now) (N.vars names.now) line (left_of work.entry) out.old.items) }
+    ensures own { OnOk result (out.new.items ≡ at_once (N.source names.now) (N.vars names.now) line (left_from_work work.entry) out.old.items) }
     ensures parts { OnOk result (all_left works.new.items ≡ all_left works.old.items
-        ++ later (N.source names.now) (N.vars names.now) line (left_of work.entry) (length out.old.items)) }
+        ++ later (N.source names.now) (N.vars names.now) line (left_from_work work.entry) (length out.old.items)) }
 {
     match work {
         Work::Code(expr) => visit(out, works, names, expr, line),

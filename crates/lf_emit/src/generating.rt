@@ -11,7 +11,7 @@ ghost use Rattle.lf_codegen.specs.GeneratedCode.{body_code, generated_body, prog
 ghost use Rattle.lf_codegen.specs.Numbers.{function_named, when_named};
 ghost use Rattle.lf_codegen.specs.TablesMean.{plain_frames};
 ghost use Rattle.lf_emit.specs.PlaceTables.{HasPlaces};
-ghost use Rattle.lf_emit.specs.Scopes.{frame_with, function_keys, name_keys, source_of, when_keys};
+ghost use Rattle.lf_emit.specs.Scopes.{frame_with, function_keys, name_keys, plain_script, when_keys};
 
 use crate::numbering::Numbering;
 use crate::places::Places;
@@ -119,7 +119,7 @@ fn body(
     own: &[Name],
     block: &Block,
 ) -> Result<Body, OutOfMemory>
-    ensures { IfOk result (λ b. b ≡ generated_body (source_of tables.now.texts.now tables.now.tree.now)
+    ensures { IfOk result (λ b. b ≡ generated_body (plain_script tables.now.texts.now tables.now.tree.now)
         (frame_with name own.now (plain_block block.now))) }
 {
     let names = body_names(alloc, own, block)?;
@@ -149,7 +149,7 @@ fn add_functions(
     functions: &[Function],
 ) -> Result<(), OutOfMemory>
     ensures { OnOk result (bodies.new ≡ bodies.old
-        ++ map (generated_body (source_of tables.now.texts.now tables.now.tree.now))
+        ++ map (generated_body (plain_script tables.now.texts.now tables.now.tree.now))
         (map function_named (map plain_function functions.now))) }
 {
     for function in functions {
@@ -173,7 +173,7 @@ fn add_whens(
     frames: &[Frame<'_>],
 ) -> Result<(), OutOfMemory>
     ensures { OnOk result (bodies.new ≡ bodies.old
-        ++ map (generated_body (source_of tables.now.texts.now tables.now.tree.now)) (map when_named (plain_frames frames.now))) }
+        ++ map (generated_body (plain_script tables.now.texts.now tables.now.tree.now)) (map when_named (plain_frames frames.now))) }
 {
     for frame in frames {
         let one = body(
@@ -190,7 +190,7 @@ fn add_whens(
 
 // The bodies of main, of the functions and of the `when`s, in this order.
 fn bodies_of(alloc: Global, tree: &Tree, texts: &Texts) -> Result<Bodies, OutOfMemory>
-    ensures { IfOk result (λ bodies. bodies ≡ (program_of (source_of texts.now tree.now)).bodies) }
+    ensures { IfOk result (λ bodies. bodies ≡ (program_of (plain_script texts.now tree.now)).bodies) }
 {
     let frames = when_frames_of(alloc, tree)?;
     let tables = Tables {
@@ -212,7 +212,7 @@ fn bodies_of(alloc: Global, tree: &Tree, texts: &Texts) -> Result<Bodies, OutOfM
 /// is reached has one number of operands, and enough. `OutOfMemory` comes also where a number
 /// of the code has no 32 bits.
 pub fn generate(alloc: Global, resolved: &Resolved, texts: &Texts) -> Result<Bodies, OutOfMemory>
-    ensures code { IfOk result (λ bodies. bodies ≡ (program_of (source_of texts.now resolved.now)).bodies) }
+    ensures code { IfOk result (λ bodies. bodies ≡ (program_of (plain_script texts.now resolved.now)).bodies) }
     ensures ticked { IfOk result (λ bodies. Ticked (record { bodies = bodies; texts = texts.now })) }
     ensures operands { IfOk result (λ bodies. AllByRecursion (λ b. HasOperands b.list) bodies) }
 {

@@ -1,7 +1,7 @@
 ghost use Rattle.std.specs.Prelude.{◌≡◌, List, map, IfOk};
 ghost use Rattle.lf_parser.specs.declared.name.Name.{Name as AName};
 ghost use Rattle.lf_parser.specs.Plain.{args_of, plain_expr};
-ghost use Rattle.lf_codegen.specs.Numbers.{Source, asked_number, called_of, var_number, when_number};
+ghost use Rattle.lf_codegen.specs.Numbers.{PlainScript, asked_number, called_of, var_number, when_number};
 
 use lf_base::{OutOfMemory, TextId};
 use lf_codegen::Called;
@@ -9,7 +9,7 @@ use lf_parser::{Expr, Name};
 
 /// The numbers of a script's names, in one of its frames.
 pub trait Numbering {
-    ghost source: { Self → Source };
+    ghost source: { Self → PlainScript };
 
     ghost vars: { Self → List AName };
 

@@ -4,7 +4,7 @@ ghost use Rattle.std.specs.Prelude.{◌≡◌, length, map, IfOk};
 ghost use Rattle.lf_parser.specs.Plain.{plain_tree};
 ghost use Rattle.lf_codegen.specs.Numbers.{var_number};
 ghost use Rattle.lf_emit.specs.PlaceTables.{HasPlaces};
-ghost use Rattle.lf_emit.specs.Scopes.{function_keys, name_keys, source_of, when_keys};
+ghost use Rattle.lf_emit.specs.Scopes.{function_keys, name_keys, plain_script, when_keys};
 
 use crate::numbering::Numbering;
 use crate::places::Places;
@@ -29,7 +29,7 @@ pub struct Scope<'t> {
 }
 
 impl<'t> Numbering for Scope<'t> {
-    ghost source = { λ scope. source_of scope.texts.now scope.tree.now };
+    ghost source = { λ scope. plain_script scope.texts.now scope.tree.now };
 
     ghost vars = { λ scope. scope.names.now };
 

@@ -3,7 +3,7 @@
 ghost use Rattle.std.specs.Prelude.{◌≡◌, ◌++◌, ◌∷◌, ◌+◌, [], length, map, IfOk, IsTrue, OnOk, Some};
 ghost use Rattle.lf_parser.specs.Plain.{plain_block, plain_expr, plain_stmt, plain_value};
 ghost use Rattle.lf_parser.specs.Plain as plain;
-ghost use Rattle.lf_code.specs.CodeStep.{placed};
+ghost use Rattle.lf_code.specs.CodeStep.{on_line};
 ghost use Rattle.lf_code.specs.declared.instr.Instr.TheVariants as instr;
 ghost use Rattle.lf_codegen.specs.GeneratedCode.{block_code, expr_code, is_empty_block, stmt_code};
 ghost use Rattle.lf_emit.specs.Left.{patched};
@@ -21,7 +21,7 @@ use std::alloc::Global;
 // A tick, and the code of an expression.
 fn ticked<N: Numbering>(out: &mut Out, names: &N, line: u32, expr: &Expr) -> Result<(), OutOfMemory>
     ensures { OnOk result (out.new.items ≡ out.old.items
-        ++ placed line instr.Tick ∷ expr_code (N.source names.now) (N.vars names.now) (plain_expr expr.now) line
+        ++ on_line line instr.Tick ∷ expr_code (N.source names.now) (N.vars names.now) (plain_expr expr.now) line
         (length out.old.items + 1)) }
 {
     put(out, line, Instr::Tick)?;
@@ -160,8 +160,8 @@ fn when<N: Numbering>(
     cowns: &[Name],
     captures: &[Name],
 ) -> Result<(), OutOfMemory>
-    ensures { OnOk result (out.new.items ≡ out.old.items ++ placed line instr.Tick
-        ∷ placed line (instr.When (when_number (N.source names.now).tree line) (map (var_number (N.vars names.now)) (cown_names cowns.now))
+    ensures { OnOk result (out.new.items ≡ out.old.items ++ on_line line instr.Tick
+        ∷ on_line line (instr.When (when_number (N.source names.now).tree line) (map (var_number (N.vars names.now)) (cown_names cowns.now))
         (map (var_number (N.vars names.now)) (capture_names cowns.now captures.now))) ∷ []) }
 {
     let alloc = *out.allocator();
@@ -183,7 +183,7 @@ fn when<N: Numbering>(
 // Lets the `unless` at an address lead behind a jump to another address.
 fn go_round(out: &mut Out, line: u32, top: u32, at: usize) -> Result<(), OutOfMemory>
     ensures { OnOk result (out.new.items ≡ patched at line (instr.Unless (length out.old.items + 1))
-        (out.old.items ++ placed line (instr.Jump top) ∷ [])) }
+        (out.old.items ++ on_line line (instr.Jump top) ∷ [])) }
 {
     put(out, line, Instr::Jump(top))?;
     land_unless(out, at, line)
@@ -192,7 +192,7 @@ fn go_round(out: &mut Out, line: u32, top: u32, at: usize) -> Result<(), OutOfMe
 // A jump at the end of a branch, to whose other branch the `unless` at an address leads.
 fn turn(out: &mut Out, line: u32, at: usize) -> Result<usize, OutOfMemory>
     ensures code { OnOk result (out.new.items ≡ patched at line (instr.Unless (length out.old.items + 1))
-        (out.old.items ++ placed line (instr.Jump 0) ∷ [])) }
+        (out.old.items ++ on_line line (instr.Jump 0) ∷ [])) }
     ensures at { IfOk result (λ skip. skip ≡ length out.old.items) }
 {
     let skip = open(out, line, Instr::Jump(0))?;

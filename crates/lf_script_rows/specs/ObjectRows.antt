@@ -4,19 +4,19 @@ use Rattle.lf_base.specs.declared.faults.Fault.TheVariants.{Cycle, Interior, Ope
 use Rattle.lf_base.specs.declared.values.Op.TheVariants.{Add}
 use Rattle.lf_parser.specs.Plain.{block_of, no_stmts}
 use Rattle.lf_parser.specs.Plain as plain
-use Rattle.lf_codegen.specs.Numbers.{Source}
+use Rattle.lf_codegen.specs.Numbers.{PlainScript}
 use Rattle.lf_script_rows.specs.RowForms.{Shows, call_expr, fault_at, int_expr, name_no, script_of, text_expr, var_expr}
 
 --
-abbrev pub empty_script : Source
+abbrev pub empty_script : PlainScript
 empty_script = script_of ([]) []
     []
 
-abbrev pub EmptyShows : Type 0
-EmptyShows = Shows empty_script 1000 [] None
+abbrev pub EmptyRuns : Type 0
+EmptyRuns = Shows empty_script 1000 [] None
 
 -- x = {}; x.f = 41 + 1; print(x.f)
-abbrev pub first_sum_script : Source
+abbrev pub first_sum_script : PlainScript
 first_sum_script = script_of (codes "x" ∷ codes "f" ∷ []) []
     (
     plain.Assign 1 (name_no 17) plain.Object
@@ -24,11 +24,11 @@ first_sum_script = script_of (codes "x" ∷ codes "f" ∷ []) []
     ∷ plain.Eval 3 (call_expr 5 (plain.Field (var_expr 17) (text_expr 18) ∷ []))
     ∷ [])
 
-abbrev pub FirstSumShows : Type 0
-FirstSumShows = Shows first_sum_script 1000000 (codes "42" ∷ []) None
+abbrev pub FirstSumRuns : Type 0
+FirstSumRuns = Shows first_sum_script 1000000 (codes "42" ∷ []) None
 
 -- r = Region(); x = {}; y = {}; x.y = y; r.x = x; print(borrowed(r), refs(y), owner(y))
-abbrev pub moved_graph_script : Source
+abbrev pub moved_graph_script : PlainScript
 moved_graph_script = script_of (codes "r" ∷ codes "x" ∷ codes "y" ∷ []) []
     (
     plain.Assign 1 (name_no 17) (call_expr 6 [])
@@ -39,11 +39,11 @@ moved_graph_script = script_of (codes "r" ∷ codes "x" ∷ codes "y" ∷ []) []
     ∷ plain.Eval 6 (call_expr 5 (call_expr 13 (var_expr 17 ∷ []) ∷ call_expr 12 (var_expr 19 ∷ []) ∷ call_expr 15 (var_expr 19 ∷ []) ∷ []))
     ∷ [])
 
-abbrev pub MovedGraphShows : Type 0
-MovedGraphShows = Shows moved_graph_script 1000 (codes "3 2 region" ∷ []) None
+abbrev pub MovedGraphRuns : Type 0
+MovedGraphRuns = Shows moved_graph_script 1000 (codes "3 2 region" ∷ []) None
 
 -- r = Region(); r.f = r; print(borrowed(r), refs(r))
-abbrev pub self_edge_script : Source
+abbrev pub self_edge_script : PlainScript
 self_edge_script = script_of (codes "r" ∷ codes "f" ∷ []) []
     (
     plain.Assign 1 (name_no 17) (call_expr 6 [])
@@ -51,11 +51,11 @@ self_edge_script = script_of (codes "r" ∷ codes "f" ∷ []) []
     ∷ plain.Eval 3 (call_expr 5 (call_expr 13 (var_expr 17 ∷ []) ∷ call_expr 12 (var_expr 17 ∷ []) ∷ []))
     ∷ [])
 
-abbrev pub SelfEdgeShows : Type 0
-SelfEdgeShows = Shows self_edge_script 1000 (codes "1 2" ∷ []) None
+abbrev pub SelfEdgeRuns : Type 0
+SelfEdgeRuns = Shows self_edge_script 1000 (codes "1 2" ∷ []) None
 
 -- r = Region(); s = Region(); r.a = s; r.b = s
-abbrev pub second_owner_script : Source
+abbrev pub second_owner_script : PlainScript
 second_owner_script = script_of (codes "r" ∷ codes "s" ∷ codes "a" ∷ codes "b" ∷ []) []
     (
     plain.Assign 1 (name_no 17) (call_expr 6 [])
@@ -64,11 +64,11 @@ second_owner_script = script_of (codes "r" ∷ codes "s" ∷ codes "a" ∷ codes
     ∷ plain.Store 4 (var_expr 17) (text_expr 20) (var_expr 18)
     ∷ [])
 
-abbrev pub SecondOwnerShows : Type 0
-SecondOwnerShows = Shows second_owner_script 1000 [] (fault_at SecondOwner 4)
+abbrev pub SecondOwnerRuns : Type 0
+SecondOwnerRuns = Shows second_owner_script 1000 [] (fault_at SecondOwner 4)
 
 -- r = Region(); s = Region(); r.s = s; s.r = r
-abbrev pub owner_cycle_script : Source
+abbrev pub owner_cycle_script : PlainScript
 owner_cycle_script = script_of (codes "r" ∷ codes "s" ∷ []) []
     (
     plain.Assign 1 (name_no 17) (call_expr 6 [])
@@ -77,11 +77,11 @@ owner_cycle_script = script_of (codes "r" ∷ codes "s" ∷ []) []
     ∷ plain.Store 4 (var_expr 18) (text_expr 17) (var_expr 17)
     ∷ [])
 
-abbrev pub OwnerCycleShows : Type 0
-OwnerCycleShows = Shows owner_cycle_script 1000 [] (fault_at Cycle 4)
+abbrev pub OwnerCycleRuns : Type 0
+OwnerCycleRuns = Shows owner_cycle_script 1000 [] (fault_at Cycle 4)
 
 -- r = Region(); s = Region(); x = {}; s.x = x; r.x = x
-abbrev pub interior_script : Source
+abbrev pub interior_script : PlainScript
 interior_script = script_of (codes "r" ∷ codes "s" ∷ codes "x" ∷ []) []
     (
     plain.Assign 1 (name_no 17) (call_expr 6 [])
@@ -91,11 +91,11 @@ interior_script = script_of (codes "r" ∷ codes "s" ∷ codes "x" ∷ []) []
     ∷ plain.Store 5 (var_expr 17) (text_expr 19) (var_expr 19)
     ∷ [])
 
-abbrev pub InteriorShows : Type 0
-InteriorShows = Shows interior_script 1000 [] (fault_at Interior 5)
+abbrev pub InteriorRuns : Type 0
+InteriorRuns = Shows interior_script 1000 [] (fault_at Interior 5)
 
 -- r = Region(); s = Region(); r.c = s; x = {}; x.s = s; r.c = x; print(open_children(r))
-abbrev pub replaced_owner_script : Source
+abbrev pub replaced_owner_script : PlainScript
 replaced_owner_script = script_of (codes "r" ∷ codes "s" ∷ codes "c" ∷ codes "x" ∷ []) []
     (
     plain.Assign 1 (name_no 17) (call_expr 6 [])
@@ -107,11 +107,11 @@ replaced_owner_script = script_of (codes "r" ∷ codes "s" ∷ codes "c" ∷ cod
     ∷ plain.Eval 7 (call_expr 5 (call_expr 14 (var_expr 17 ∷ []) ∷ []))
     ∷ [])
 
-abbrev pub ReplacedOwnerShows : Type 0
-ReplacedOwnerShows = Shows replaced_owner_script 1000 (codes "1" ∷ []) None
+abbrev pub ReplacedOwnerRuns : Type 0
+ReplacedOwnerRuns = Shows replaced_owner_script 1000 (codes "1" ∷ []) None
 
 -- r = Region(); s = Region(); x = {}; x.a = s; x.b = s; r.x = x
-abbrev pub refused_unchanged_script : Source
+abbrev pub refused_unchanged_script : PlainScript
 refused_unchanged_script = script_of (codes "r" ∷ codes "s" ∷ codes "x" ∷ codes "a" ∷ codes "b" ∷ []) []
     (
     plain.Assign 1 (name_no 17) (call_expr 6 [])
@@ -122,11 +122,11 @@ refused_unchanged_script = script_of (codes "r" ∷ codes "s" ∷ codes "x" ∷ 
     ∷ plain.Store 6 (var_expr 17) (text_expr 19) (var_expr 19)
     ∷ [])
 
-abbrev pub RefusedUnchangedShows : Type 0
-RefusedUnchangedShows = Shows refused_unchanged_script 1000 [] (fault_at SecondOwner 6)
+abbrev pub RefusedUnchangedRuns : Type 0
+RefusedUnchangedRuns = Shows refused_unchanged_script 1000 [] (fault_at SecondOwner 6)
 
 -- r = Region(); x = {}; r.x = x; freeze(x); print(owner(x), borrowed(r))
-abbrev pub freeze_inner_script : Source
+abbrev pub freeze_inner_script : PlainScript
 freeze_inner_script = script_of (codes "r" ∷ codes "x" ∷ []) []
     (
     plain.Assign 1 (name_no 17) (call_expr 6 [])
@@ -136,11 +136,11 @@ freeze_inner_script = script_of (codes "r" ∷ codes "x" ∷ []) []
     ∷ plain.Eval 5 (call_expr 5 (call_expr 15 (var_expr 18 ∷ []) ∷ call_expr 13 (var_expr 17 ∷ []) ∷ []))
     ∷ [])
 
-abbrev pub FreezeInnerShows : Type 0
-FreezeInnerShows = Shows freeze_inner_script 1000 (codes "frozen 1" ∷ []) None
+abbrev pub FreezeInnerRuns : Type 0
+FreezeInnerRuns = Shows freeze_inner_script 1000 (codes "frozen 1" ∷ []) None
 
 -- r = Region(); a = {}; b = {}; a.o = b; b.o = a; a.r = r; drop a; drop b; c = Cown(move r)
-abbrev pub open_cown_script : Source
+abbrev pub open_cown_script : PlainScript
 open_cown_script = script_of (codes "r" ∷ codes "a" ∷ codes "b" ∷ codes "o" ∷ codes "c" ∷ []) []
     (
     plain.Assign 1 (name_no 17) (call_expr 6 [])
@@ -154,11 +154,11 @@ open_cown_script = script_of (codes "r" ∷ codes "a" ∷ codes "b" ∷ codes "o
     ∷ plain.Assign 9 (name_no 21) (call_expr 7 (plain.Move (name_no 17) ∷ []))
     ∷ [])
 
-abbrev pub OpenCownShows : Type 0
-OpenCownShows = Shows open_cown_script 1000 [] (fault_at Open 9)
+abbrev pub OpenCownRuns : Type 0
+OpenCownRuns = Shows open_cown_script 1000 [] (fault_at Open 9)
 
 -- r = Region(); a = {}; b = {}; a.o = b; b.o = a; a.r = r; drop a; drop b; close(r); c = Cown(move r)
-abbrev pub closed_cown_script : Source
+abbrev pub closed_cown_script : PlainScript
 closed_cown_script = script_of (codes "r" ∷ codes "a" ∷ codes "b" ∷ codes "o" ∷ codes "c" ∷ []) []
     (
     plain.Assign 1 (name_no 17) (call_expr 6 [])
@@ -173,11 +173,11 @@ closed_cown_script = script_of (codes "r" ∷ codes "a" ∷ codes "b" ∷ codes 
     ∷ plain.Assign 10 (name_no 21) (call_expr 7 (plain.Move (name_no 17) ∷ []))
     ∷ [])
 
-abbrev pub ClosedCownShows : Type 0
-ClosedCownShows = Shows closed_cown_script 1000 [] None
+abbrev pub ClosedCownRuns : Type 0
+ClosedCownRuns = Shows closed_cown_script 1000 [] None
 
 -- r = Region(); x = {}; r.x = x; c = Cown(move r)
-abbrev pub borrowed_cown_script : Source
+abbrev pub borrowed_cown_script : PlainScript
 borrowed_cown_script = script_of (codes "r" ∷ codes "x" ∷ codes "c" ∷ []) []
     (
     plain.Assign 1 (name_no 17) (call_expr 6 [])
@@ -186,11 +186,11 @@ borrowed_cown_script = script_of (codes "r" ∷ codes "x" ∷ codes "c" ∷ []) 
     ∷ plain.Assign 4 (name_no 19) (call_expr 7 (plain.Move (name_no 17) ∷ []))
     ∷ [])
 
-abbrev pub BorrowedCownShows : Type 0
-BorrowedCownShows = Shows borrowed_cown_script 1000 [] (fault_at Open 4)
+abbrev pub BorrowedCownRuns : Type 0
+BorrowedCownRuns = Shows borrowed_cown_script 1000 [] (fault_at Open 4)
 
 -- r = Region(); s = Region(); r.s = s; drop r; print(open_children(s), refs(s)); c = Cown(move s)
-abbrev pub orphaned_child_script : Source
+abbrev pub orphaned_child_script : PlainScript
 orphaned_child_script = script_of (codes "r" ∷ codes "s" ∷ codes "c" ∷ []) []
     (
     plain.Assign 1 (name_no 17) (call_expr 6 [])
@@ -201,11 +201,11 @@ orphaned_child_script = script_of (codes "r" ∷ codes "s" ∷ codes "c" ∷ [])
     ∷ plain.Assign 6 (name_no 19) (call_expr 7 (plain.Move (name_no 18) ∷ []))
     ∷ [])
 
-abbrev pub OrphanedChildShows : Type 0
-OrphanedChildShows = Shows orphaned_child_script 1000 (codes "0 1" ∷ []) None
+abbrev pub OrphanedChildRuns : Type 0
+OrphanedChildRuns = Shows orphaned_child_script 1000 (codes "0 1" ∷ []) None
 
 -- b = Region(); a = Region(); b.a = a; merge(a, b); print(owner(b), refs(a), borrowed(a))
-abbrev pub merges_script : Source
+abbrev pub merges_script : PlainScript
 merges_script = script_of (codes "b" ∷ codes "a" ∷ []) []
     (
     plain.Assign 1 (name_no 17) (call_expr 6 [])
@@ -215,11 +215,11 @@ merges_script = script_of (codes "b" ∷ codes "a" ∷ []) []
     ∷ plain.Eval 5 (call_expr 5 (call_expr 15 (var_expr 17 ∷ []) ∷ call_expr 12 (var_expr 18 ∷ []) ∷ call_expr 13 (var_expr 18 ∷ []) ∷ []))
     ∷ [])
 
-abbrev pub MergesShows : Type 0
-MergesShows = Shows merges_script 1000 (codes "region 2 2" ∷ []) None
+abbrev pub MergesRuns : Type 0
+MergesRuns = Shows merges_script 1000 (codes "region 2 2" ∷ []) None
 
 -- b = Region(); q = Region(); a = Region(); b.q = q; q.a = a; merge(a, b)
-abbrev pub merge_cycle_script : Source
+abbrev pub merge_cycle_script : PlainScript
 merge_cycle_script = script_of (codes "b" ∷ codes "q" ∷ codes "a" ∷ []) []
     (
     plain.Assign 1 (name_no 17) (call_expr 6 [])
@@ -230,11 +230,11 @@ merge_cycle_script = script_of (codes "b" ∷ codes "q" ∷ codes "a" ∷ []) []
     ∷ plain.Eval 6 (call_expr 9 (var_expr 19 ∷ var_expr 17 ∷ []))
     ∷ [])
 
-abbrev pub MergeCycleShows : Type 0
-MergeCycleShows = Shows merge_cycle_script 1000 [] (fault_at Cycle 6)
+abbrev pub MergeCycleRuns : Type 0
+MergeCycleRuns = Shows merge_cycle_script 1000 [] (fault_at Cycle 6)
 
 -- r = Region(); s = Region(); x = {}; s.x = x; s.x = 0; r.s = s; freeze(s); print(owner(x), owner(s), open_children(r), is_closed(r))
-abbrev pub freeze_region_script : Source
+abbrev pub freeze_region_script : PlainScript
 freeze_region_script = script_of (codes "r" ∷ codes "s" ∷ codes "x" ∷ []) []
     (
     plain.Assign 1 (name_no 17) (call_expr 6 [])
@@ -248,11 +248,11 @@ freeze_region_script = script_of (codes "r" ∷ codes "s" ∷ codes "x" ∷ []) 
     (var_expr 17 ∷ []) ∷ call_expr 16 (var_expr 17 ∷ []) ∷ []))
     ∷ [])
 
-abbrev pub FreezeRegionShows : Type 0
-FreezeRegionShows = Shows freeze_region_script 1000 (codes "frozen frozen 0 True" ∷ []) None
+abbrev pub FreezeRegionRuns : Type 0
+FreezeRegionRuns = Shows freeze_region_script 1000 (codes "frozen frozen 0 True" ∷ []) None
 
 -- r = Region(); x = {}; r.x = x; dissolve(r); print(owner(r), owner(x), refs(x))
-abbrev pub dissolves_script : Source
+abbrev pub dissolves_script : PlainScript
 dissolves_script = script_of (codes "r" ∷ codes "x" ∷ []) []
     (
     plain.Assign 1 (name_no 17) (call_expr 6 [])
@@ -262,11 +262,11 @@ dissolves_script = script_of (codes "r" ∷ codes "x" ∷ []) []
     ∷ plain.Eval 5 (call_expr 5 (call_expr 15 (var_expr 17 ∷ []) ∷ call_expr 15 (var_expr 18 ∷ []) ∷ call_expr 12 (var_expr 18 ∷ []) ∷ []))
     ∷ [])
 
-abbrev pub DissolvesShows : Type 0
-DissolvesShows = Shows dissolves_script 1000 (codes "local local 2" ∷ []) None
+abbrev pub DissolvesRuns : Type 0
+DissolvesRuns = Shows dissolves_script 1000 (codes "local local 2" ∷ []) None
 
 -- r = Region(); print(is_closed(r)); q = r; print(is_closed(r))
-abbrev pub closedness_script : Source
+abbrev pub closedness_script : PlainScript
 closedness_script = script_of (codes "r" ∷ codes "q" ∷ []) []
     (
     plain.Assign 1 (name_no 17) (call_expr 6 [])
@@ -275,5 +275,5 @@ closedness_script = script_of (codes "r" ∷ codes "q" ∷ []) []
     ∷ plain.Eval 4 (call_expr 5 (call_expr 16 (var_expr 17 ∷ []) ∷ []))
     ∷ [])
 
-abbrev pub ClosednessShows : Type 0
-ClosednessShows = Shows closedness_script 1000 (codes "True" ∷ codes "False" ∷ []) None
+abbrev pub ClosednessRuns : Type 0
+ClosednessRuns = Shows closedness_script 1000 (codes "True" ∷ codes "False" ∷ []) None

@@ -10,7 +10,7 @@ use Rattle.lf_parser.specs.Plain.{PlainExpr, PlainFunction, PlainStmt, args_of, 
 use Rattle.lf_parser.specs.Plain as plain
 use Rattle.lf_code.specs.RunCode.{RunResult, run_code}
 use Rattle.lf_codegen.specs.GeneratedCode.{program_of}
-use Rattle.lf_codegen.specs.Numbers.{Source}
+use Rattle.lf_codegen.specs.Numbers.{PlainScript}
 use Rattle.lf_codegen.specs.RunOne.{run_one}
 
 -- names and texts by their places among the script's texts; the first 17 are fixed
@@ -36,7 +36,7 @@ abbrev pub function_of : ℕ → List Name → List PlainStmt → PlainFunction
 function_of n params body = record { name = name_no n; params = params; body = block_of body }
 
 -- a script with these texts behind the fixed ones
-abbrev pub script_of : List Text → List PlainFunction → List PlainStmt → Source
+abbrev pub script_of : List Text → List PlainFunction → List PlainStmt → PlainScript
 script_of texts functions main = record { texts = fixed_texts ++ texts; tree = record { functions = functions; main = block_of main } }
 
 -- the behaviour that runs main
@@ -50,6 +50,6 @@ abbrev pub Ends : RunResult → List Text → Option FaultAt → Type 0
 Ends r lines fault = (r.lines ≡ lines) × (r.fault ≡ fault)
 
 -- within so many ticks main prints these lines and ends so, by the tree and by the code
-abbrev pub Shows : Source → ℕ → List Text → Option FaultAt → Type 0
+abbrev pub Shows : PlainScript → ℕ → List Text → Option FaultAt → Type 0
 Shows s ticks lines fault =
     Ends (run_one s ticks main_job [] []) lines fault × Ends (run_code (program_of s) ticks main_job [] []) lines fault

@@ -19,7 +19,7 @@ use Rattle.lf_parser.specs.Plain.{block_of, no_stmts}
 use Rattle.lf_parser.specs.Plain as plain
 use Rattle.lf_code.specs.RunCode.{RunResult, run_code}
 use Rattle.lf_codegen.specs.GeneratedCode.{program_of}
-use Rattle.lf_codegen.specs.Numbers.{Source}
+use Rattle.lf_codegen.specs.Numbers.{PlainScript}
 use Rattle.lf_codegen.specs.RunOne.{run_one}
 use Rattle.lf_script_rows.specs.RowForms.{Shows, call_expr, fault_at, function_of, int_expr, main_job, name_no, script_of, text_expr}
 use Rattle.lf_script_rows.specs.RowForms.{text_no, var_expr}
@@ -49,14 +49,14 @@ abbrev pub AsksFor : RunResult → List Spawn → Type 0
 AsksFor r spawns = (r.fault ≡ None) × (r.spawns ≡ spawns)
 
 -- main ends by itself and asks for these behaviours
-abbrev pub Asks : Source → List Spawn → Type 0
+abbrev pub Asks : PlainScript → List Spawn → Type 0
 Asks s spawns = AsksFor (run_one s 1000 main_job [] []) spawns × AsksFor (run_code (program_of s) 1000 main_job [] []) spawns
 
 abbrev pub LeavesSo : RunResult → List Text → Option FaultAt → List (CownId × Parked) → Type 0
 LeavesSo r lines fault held = (r.lines ≡ lines) × (r.fault ≡ fault) × (r.held ≡ held)
 
 -- with these contents and frozen rows a job prints these lines, ends so, and leaves these contents
-abbrev pub Leaves : Source → Job → List (CownId × Parked) → List Row → List Text → Option FaultAt → List (CownId × Parked) → Type 0
+abbrev pub Leaves : PlainScript → Job → List (CownId × Parked) → List Row → List Text → Option FaultAt → List (CownId × Parked) → Type 0
 Leaves s job contents given lines fault held =
     LeavesSo (run_one s 1000 job contents given) lines fault held
     × LeavesSo (run_code (program_of s) 1000 job contents given) lines fault held
@@ -66,7 +66,7 @@ abbrev pub balance : ℕ → ℕ → Parked
 balance n amount = region_with n ((key.Text (text_no 20), value.Int (pos amount)) ∷ [])
 
 -- c = Cown(1); x = {}; x.f = 5; freeze(x); when c with x:;     c.value = c.value + x.f;     print(c.value)
-abbrev pub frozen_capture_script : Source
+abbrev pub frozen_capture_script : PlainScript
 frozen_capture_script = script_of (codes "c" ∷ codes "x" ∷ codes "f" ∷ []) []
     (
     plain.Assign 1 (name_no 17) (call_expr 7 (int_expr 1 ∷ []))
@@ -81,8 +81,8 @@ frozen_capture_script = script_of (codes "c" ∷ codes "x" ∷ codes "f" ∷ [])
     ∷ []))
     ∷ [])
 
-abbrev pub FrozenCaptureShows : Type 0
-FrozenCaptureShows =
+abbrev pub FrozenCaptureRuns : Type 0
+FrozenCaptureRuns =
     Asks frozen_capture_script (spawn_for 1 (cown_no 1 ∷ []) (value.Cown (cown_no 1) ∷ value.Obj (object_no 1) ∷ []) ∷ [])
     × Leaves frozen_capture_script (job_for 1 1 (cown_no 1 ∷ []) (value.Cown (cown_no 1) ∷ value.Obj (object_no 1) ∷ []))
     ((cown_no 1, plainly (value.Int (pos 1))) ∷ [])
@@ -90,7 +90,7 @@ FrozenCaptureShows =
     (codes "6" ∷ []) None ((cown_no 1, plainly (value.Int (pos 6))) ∷ [])
 
 -- c = Cown(1); d = c; when c, d:;     print(c == d)
-abbrev pub one_cown_twice_script : Source
+abbrev pub one_cown_twice_script : PlainScript
 one_cown_twice_script = script_of (codes "c" ∷ codes "d" ∷ []) []
     (
     plain.Assign 1 (name_no 17) (call_expr 7 (int_expr 1 ∷ []))
@@ -101,15 +101,15 @@ one_cown_twice_script = script_of (codes "c" ∷ codes "d" ∷ []) []
     ∷ []))
     ∷ [])
 
-abbrev pub OneCownTwiceShows : Type 0
-OneCownTwiceShows =
+abbrev pub OneCownTwiceRuns : Type 0
+OneCownTwiceRuns =
     Asks one_cown_twice_script (spawn_for 1 (cown_no 1 ∷ []) (value.Cown (cown_no 1) ∷ value.Cown (cown_no 1) ∷ []) ∷ [])
     × Leaves one_cown_twice_script (job_for 1 1 (cown_no 1 ∷ []) (value.Cown (cown_no 1) ∷ value.Cown (cown_no 1) ∷ []))
     ((cown_no 1, plainly (value.Int (pos 1))) ∷ []) []
     (codes "True" ∷ []) None ((cown_no 1, plainly (value.Int (pos 1))) ∷ [])
 
 -- c = Cown(1); d = c; when c, c, d with c, d, c:;     pass
-abbrev pub named_again_script : Source
+abbrev pub named_again_script : PlainScript
 named_again_script = script_of (codes "c" ∷ codes "d" ∷ []) []
     (
     plain.Assign 1 (name_no 17) (call_expr 7 (int_expr 1 ∷ []))
@@ -120,12 +120,12 @@ named_again_script = script_of (codes "c" ∷ codes "d" ∷ []) []
     ∷ []))
     ∷ [])
 
-abbrev pub NamedAgainShows : Type 0
-NamedAgainShows =
+abbrev pub NamedAgainRuns : Type 0
+NamedAgainRuns =
     Asks named_again_script (spawn_for 1 (cown_no 1 ∷ []) (value.Cown (cown_no 1) ∷ value.Cown (cown_no 1) ∷ []) ∷ [])
 
 -- c = Cown(1); when c:;     c.value = 2;     c.value = 1 / 0; when c:;     print(c.value)
-abbrev pub fault_keeps_writes_script : Source
+abbrev pub fault_keeps_writes_script : PlainScript
 fault_keeps_writes_script = script_of (codes "c" ∷ []) []
     (
     plain.Assign 1 (name_no 17) (call_expr 7 (int_expr 1 ∷ []))
@@ -140,8 +140,8 @@ fault_keeps_writes_script = script_of (codes "c" ∷ []) []
     ∷ []))
     ∷ [])
 
-abbrev pub FaultKeepsWritesShows : Type 0
-FaultKeepsWritesShows =
+abbrev pub FaultKeepsWritesRuns : Type 0
+FaultKeepsWritesRuns =
     Asks fault_keeps_writes_script
     (spawn_for 1 (cown_no 1 ∷ []) (value.Cown (cown_no 1) ∷ []) ∷ spawn_for 2 (cown_no 1 ∷ []) (value.Cown (cown_no 1) ∷ []) ∷ [])
     × Leaves fault_keeps_writes_script (job_for 1 1 (cown_no 1 ∷ []) (value.Cown (cown_no 1) ∷ []))
@@ -152,7 +152,7 @@ FaultKeepsWritesShows =
     (codes "2" ∷ []) None ((cown_no 1, plainly (value.Int (pos 2))) ∷ [])
 
 -- r = Region(); c = Cown(move r); when c:;     q = move c.value;     print(owner(q), c.value)
-abbrev pub moved_content_script : Source
+abbrev pub moved_content_script : PlainScript
 moved_content_script = script_of (codes "r" ∷ codes "c" ∷ codes "q" ∷ []) []
     (
     plain.Assign 1 (name_no 17) (call_expr 6 [])
@@ -164,14 +164,14 @@ moved_content_script = script_of (codes "r" ∷ codes "c" ∷ codes "q" ∷ []) 
     ∷ []))
     ∷ [])
 
-abbrev pub MovedContentShows : Type 0
-MovedContentShows =
+abbrev pub MovedContentRuns : Type 0
+MovedContentRuns =
     Asks moved_content_script (spawn_for 1 (cown_no 1 ∷ []) (value.Cown (cown_no 1) ∷ []) ∷ [])
     × Leaves moved_content_script (job_for 1 1 (cown_no 1 ∷ []) (value.Cown (cown_no 1) ∷ [])) ((cown_no 1, region_with 1 []) ∷ []) []
     (codes "region None" ∷ []) None ((cown_no 1, plainly value.None) ∷ [])
 
 -- c = Cown(1); when c:;     c.value = 2;     return;     c.value = 3
-abbrev pub body_returns_script : Source
+abbrev pub body_returns_script : PlainScript
 body_returns_script = script_of (codes "c" ∷ []) []
     (
     plain.Assign 1 (name_no 17) (call_expr 7 (int_expr 1 ∷ []))
@@ -183,8 +183,8 @@ body_returns_script = script_of (codes "c" ∷ []) []
     ∷ []))
     ∷ [])
 
-abbrev pub BodyReturnsShows : Type 0
-BodyReturnsShows =
+abbrev pub BodyReturnsRuns : Type 0
+BodyReturnsRuns =
     Leaves body_returns_script (job_for 1 1 (cown_no 1 ∷ []) (value.Cown (cown_no 1) ∷ []))
     ((cown_no 1, plainly (value.Int (pos 1))) ∷ []) []
     [] None ((cown_no 1, plainly (value.Int (pos 2))) ∷ [])
@@ -192,7 +192,7 @@ BodyReturnsShows =
 -- def account(n):;     r = Region();     r.balance = n;     return Cown(move r); def pay(a, b, n):;     when a, b with n:;
 -- a.value.balance = a.value.balance - n;         b.value.balance = b.value.balance + n; x = account(100); y = account(50); pay(x, y, 30);
 -- pay(y, x, 10); pay(x, y, 6); when x, y:;     print(x.value.balance, y.value.balance)
-abbrev pub accounts_script : Source
+abbrev pub accounts_script : PlainScript
 accounts_script = script_of (codes "account" ∷ codes "n" ∷ codes "r" ∷ codes "balance" ∷ codes "pay" ∷ codes "a" ∷ codes "b" ∷ codes "x" ∷
     codes "y" ∷ [])
     (
@@ -224,8 +224,8 @@ accounts_script = script_of (codes "account" ∷ codes "n" ∷ codes "r" ∷ cod
     ∷ []))
     ∷ [])
 
-abbrev pub AccountsShows : Type 0
-AccountsShows =
+abbrev pub AccountsRuns : Type 0
+AccountsRuns =
     Asks accounts_script (
     spawn_for 3 (cown_no 1 ∷ cown_no 2 ∷ []) (value.Cown (cown_no 1) ∷ value.Cown (cown_no 2) ∷ value.Int (pos 30) ∷ [])
     ∷ spawn_for 3 (cown_no 2 ∷ cown_no 1 ∷ []) (value.Cown (cown_no 2) ∷ value.Cown (cown_no 1) ∷ value.Int (pos 10) ∷ [])
@@ -240,7 +240,7 @@ AccountsShows =
     ((cown_no 1, balance 1 74) ∷ (cown_no 2, balance 2 76) ∷ [])
 
 -- while True:;     when:;         pass
-abbrev pub endless_whens_script : Source
+abbrev pub endless_whens_script : PlainScript
 endless_whens_script = script_of ([]) []
     (
     plain.While 1 plain.Yes
@@ -252,7 +252,7 @@ endless_whens_script = script_of ([]) []
     ∷ []))
     ∷ [])
 
-abbrev pub EndlessWhensShows : Type 0
-EndlessWhensShows =
+abbrev pub EndlessWhensRuns : Type 0
+EndlessWhensRuns =
     Shows endless_whens_script 1000000 [] (fault_at TooManySpawns 2)
     × (length (run_one endless_whens_script 1000000 main_job [] []).spawns ≡ 1000)

@@ -1,25 +1,25 @@
 //! Scripts on operators, branches, turns and calls. Each function has an empty body; its clauses are the rows.
 
-ghost use Rattle.lf_script_rows.specs.ControlRows.{ShortWaysShows, AndTestsShows, OrTestsShows, NoTruthLeftShows, DivisionsShows};
-ghost use Rattle.lf_script_rows.specs.ControlRows.{LeastRestShows, ComparisonsShows, ElifsShows, NoBranchShows, TurnsShows, Counts198Shows};
-ghost use Rattle.lf_script_rows.specs.ControlRows.{Counts199Shows, MainReturnsShows, FrameGoesShows, FirstDefFirstShows, SpelledShows};
+ghost use Rattle.lf_script_rows.specs.ControlRows.{ShortWaysRuns, AndTestsRuns, OrTestsRuns, NoTruthLeftRuns, DivisionsRuns};
+ghost use Rattle.lf_script_rows.specs.ControlRows.{LeastRestRuns, ComparisonsRuns, ElifsRuns, NoBranchRuns, TurnsRuns, Counts198Runs};
+ghost use Rattle.lf_script_rows.specs.ControlRows.{Counts199Runs, MainReturnsRuns, FrameGoesRuns, FirstDefFirstRuns, SpelledRuns};
 
 /// Each row by the tree and by the code.
 pub fn control_rows_compute()
-    ensures short_ways { ShortWaysShows }
-    ensures and_tests { AndTestsShows }
-    ensures or_tests { OrTestsShows }
-    ensures no_truth_left { NoTruthLeftShows }
-    ensures divisions { DivisionsShows }
-    ensures least_rest { LeastRestShows }
-    ensures comparisons { ComparisonsShows }
-    ensures elifs { ElifsShows }
-    ensures no_branch { NoBranchShows }
-    ensures turns { TurnsShows }
-    ensures counts_198 { Counts198Shows }
-    ensures counts_199 { Counts199Shows }
-    ensures main_returns { MainReturnsShows }
-    ensures frame_goes { FrameGoesShows }
-    ensures first_def_first { FirstDefFirstShows }
-    ensures spelled { SpelledShows }
+    ensures short_ways { ShortWaysRuns }
+    ensures and_tests { AndTestsRuns }
+    ensures or_tests { OrTestsRuns }
+    ensures no_truth_left { NoTruthLeftRuns }
+    ensures divisions { DivisionsRuns }
+    ensures least_rest { LeastRestRuns }
+    ensures comparisons { ComparisonsRuns }
+    ensures elifs { ElifsRuns }
+    ensures no_branch { NoBranchRuns }
+    ensures turns { TurnsRuns }
+    ensures counts_198 { Counts198Runs }
+    ensures counts_199 { Counts199Runs }
+    ensures main_returns { MainReturnsRuns }
+    ensures frame_goes { FrameGoesRuns }
+    ensures first_def_first { FirstDefFirstRuns }
+    ensures spelled { SpelledRuns }
 {}

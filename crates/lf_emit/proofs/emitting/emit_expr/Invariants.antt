@@ -2,7 +2,7 @@ use Rattle.std.proofs.Common.{◌≡◌, ◌++◌, length}
 use Rattle.lf_parser.specs.Plain.{plain_expr}
 use Rattle.lf_codegen.specs.GeneratedCode.{expr_code}
 use Rattle.lf_emit.specs.Left.{all_left, finished}
-use Rattle.lf_emit.proofs.Emitted.{size}
+use Rattle.lf_emit.proofs.Emitted.{size_of_all}
 use Rattle.lf_emit.proofs.emitting.emit_expr.Given as goal
 
 abbrev pub invariant-loop-work : goal.invariant-loop-work
@@ -12,4 +12,4 @@ invariant-loop-work g l =
     (length l.fn.out.items)
 
 abbrev pub decreases-loop-work : goal.decreases-loop-work
-decreases-loop-work g l = size (all_left l.works.items)
+decreases-loop-work g l = size_of_all (all_left l.works.items)

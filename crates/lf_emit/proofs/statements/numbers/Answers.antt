@@ -8,5 +8,5 @@ loop-name-preserved g c =
     mapped_next
     (var_number
     (g.N.Numbering.vars c.args.names.now)) c.args.list.now c.loop-name.name-index _ c.loop-name.vars c.add_number.new.vars
-        c.loop-name-test.true c.in_ok-add_number.ensures
+    c.loop-name-test.true c.in_ok-add_number.ensures
     ∙ c.loop-name.invariant

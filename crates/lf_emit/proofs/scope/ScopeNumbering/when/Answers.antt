@@ -10,5 +10,13 @@ pub returns : goal.returns
 returns c =
     let tree = plain_tree c.args.self.now.tree.now in
     let place = c.place-place.ensures (when_keys tree) c.args.self.now.whens_are ∙ place_turned frame_line (when_frames tree) c.args.line in
-    omega (arith, c.in-Some-checked_add.ensures, c.in-Some.ensures, c.in-Ok.ensures, c.len.ensures, place, length-map
-        c.args.self.now.tree.now.functions plain_function)
+    omega (
+      arith,
+      c.in-Some-checked_add.ensures,
+      c.in-Some.ensures,
+      c.in-Ok.ensures,
+      c.len.ensures,
+      place,
+      length-map
+          c.args.self.now.tree.now.functions plain_function,
+    )
