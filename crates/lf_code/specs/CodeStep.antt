@@ -14,7 +14,7 @@ use Rattle.lf_code.specs.declared.instr.Instr.TheVariants as instr
 use Rattle.lf_code.specs.Actions.{base_of, binary_change, enter, last_truth, leave, pop_value, push_value, test_truth, tick, no_frame_left}
 use Rattle.lf_code.specs.Actions.{unary_change, without_operand}
 use Rattle.lf_code.specs.Asks.{ask_change}
-use Rattle.lf_code.specs.Courses.{Course, Did, Fails, Flow, Next, Return, by_truth, does, on_state, to_state}
+use Rattle.lf_code.specs.Progress.{Progress, Did, Fails, Flow, Next, Return, by_truth, does, on_state, to_state}
 use Rattle.lf_code.specs.Prints.{built}
 use Rattle.lf_code.specs.Spawning.{spawns_one}
 
@@ -26,8 +26,8 @@ pub record Frame : Type 0 where
 
 -- a behaviour on its way: its last frame, those below it, and the course; or it is over
 pub data Config : Type 0 where
-  Running : Frame → List Frame → Course → Config
-  Over : Course → Option FaultAt → Config
+  Running : Frame → List Frame → Progress → Config
+  Over : Progress → Option FaultAt → Config
 
 -- the code of a script: its bodies and its texts
 pub record Program : Type 0 where
@@ -39,12 +39,12 @@ IsOver (Running f fs c) = ⊥
 IsOver (Over c fault) = Unit {0}
 
 -- on to the frame below, or over
-abbrev pub returned : List Frame → Course → Config
+abbrev pub returned : List Frame → Progress → Config
 returned [] c = Over c None
 returned (f ∷ fs) c = Running f fs c
 
 -- where a piece leads that goes on, returns, or fails
-abbrev pub led : (Course → Config) → (Course → Config) → Flow → Config
+abbrev pub led : (Progress → Config) → (Progress → Config) → Flow → Config
 led next back (Next c) = next c
 led next back (Return c) = back c
 led next back (Fails c at) = Over c (Some at)
@@ -57,12 +57,12 @@ to_address f at = record f { at = at }
 abbrev pub frames_left : List Frame → ℕ
 frames_left fs = MOST_FRAMES - 1 - length fs
 
-abbrev pub placed : ℕ → Instr → Placed
-placed line i = record { line = line; instr = i }
+abbrev pub on_line : ℕ → Instr → Placed
+on_line line i = record { line = line; instr = i }
 
 -- the end of each body
 abbrev pub body_end : List Placed
-body_end = placed 0 instr.None ∷ placed 0 instr.Return ∷ []
+body_end = on_line 0 instr.None ∷ on_line 0 instr.Return ∷ []
 
 -- a body that isn't there, which valid code never calls, has its end alone
 abbrev pub list_of : Option Body → List Placed
@@ -77,19 +77,19 @@ abbrev pub new_frame : ℕ → ℕ → Frame
 new_frame body base = record { body = body; at = 0; base = base }
 
 -- the last frame goes
-abbrev pub return_to : Frame → List Frame → Course → Config
+abbrev pub return_to : Frame → List Frame → Progress → Config
 return_to f fs c = returned fs (leave f.base c)
 
 -- at an address of the last frame
-abbrev pub at_address : Frame → List Frame → ℕ → Course → Config
+abbrev pub at_address : Frame → List Frame → ℕ → Progress → Config
 at_address f fs at c = Running (to_address f at) fs c
 
 -- an action, and then the next instruction
-abbrev pub acts : ℕ → (Course → Did) → Frame → List Frame → Course → Config
+abbrev pub acts : ℕ → (Progress → Did) → Frame → List Frame → Progress → Config
 acts line action f fs c = led (at_address f fs (f.at + 1)) (return_to f fs) (does line action c)
 
 -- what should be a truth value is none
-abbrev pub no_truth : ℕ → Course → Config
+abbrev pub no_truth : ℕ → Progress → Config
 no_truth line c = Over c (Some (record { fault = Kind; line = line }))
 
 module _ (p : Program) where
@@ -101,13 +101,13 @@ module _ (p : Program) where
   vars_at body = vars_of (slice_get p.bodies body)
 
   -- a call, by the number of frames more that may stand
-  abbrev pub call_by : ℕ → ℕ → ℕ → ℕ → Frame → List Frame → Course → Config
+  abbrev pub call_by : ℕ → ℕ → ℕ → ℕ → Frame → List Frame → Progress → Config
   call_by zero line body count f fs c = led (at_address f fs (f.at + 1)) (return_to f fs) (does line no_frame_left c)
   call_by (suc n) line body count f fs c =
       led (Running (new_frame body (base_of count c)) (to_address f (f.at + 1) ∷ fs)) (return_to f fs)
       (does line (enter (vars_at body - count)) c)
 
-  abbrev pub act : ℕ → Instr → Frame → List Frame → Course → Config
+  abbrev pub act : ℕ → Instr → Frame → List Frame → Progress → Config
   act line instr.Tick f fs c = acts line tick f fs c
   act line instr.None f fs c = acts line (push_value value.None) f fs c
   act line (instr.Bool b) f fs c = acts line (push_value (value.Bool b)) f fs c
@@ -142,7 +142,7 @@ module _ (p : Program) where
   act line instr.Pop f fs c = acts line pop_value f fs c
 
   -- an address without instruction ends it; valid code has none
-  abbrev pub act_at : Option Placed → Frame → List Frame → Course → Config
+  abbrev pub act_at : Option Placed → Frame → List Frame → Progress → Config
   act_at None f fs c = Over c None
   act_at (Some i) f fs c = act i.line i.instr f fs c
 

@@ -1,4 +1,4 @@
-pub mod Courses
+pub mod Progress
 pub mod Operators
 pub mod Spelling
 pub mod Actions
@@ -8,6 +8,7 @@ pub mod Spawning
 pub mod CodeStep
 pub mod RunCode
 pub mod Ticked
+pub mod DroppingOnce
 pub mod Operations
 pub mod ValidCode
 pub mod OperandWalk

@@ -9,7 +9,7 @@ use Rattle.lf_base.specs.Texts.{Text}
 use Rattle.lf_code.specs.declared.instr.BuiltName.{BuiltName}
 use Rattle.lf_code.specs.declared.instr.BuiltName.TheVariants.{Cown, Dissolve, Freeze, Merge, Print, Region}
 use Rattle.lf_code.specs.Actions.{operands, pops}
-use Rattle.lf_code.specs.Courses.{Course, Did, Does, Faulted, on_state, to_state}
+use Rattle.lf_code.specs.Progress.{Progress, Did, Does, Faulted, on_state, to_state}
 use Rattle.lf_code.specs.Spelling.{spelled_all}
 
 -- the bytes of lines, each with its line feed
@@ -18,16 +18,16 @@ bytes_of [] = 0
 bytes_of (line ∷ lines) = length line + 1 + bytes_of lines
 
 -- a line more, and None in the place of n operands
-abbrev pub with_line : ℕ → Course → List ℕ → Did
+abbrev pub with_line : ℕ → Progress → List ℕ → Did
 with_line n c line = cond (leb (bytes_of c.lines + (length line + 1)) MOST_PRINTED_BYTES)
     (Does (record c { state = pushed (Some value.None) (pops n c.state); lines = c.lines ++ line ∷ [] }))
     (Faulted OutputFull)
 
-abbrev pub print_line : List Text → ℕ → Course → Did
+abbrev pub print_line : List Text → ℕ → Progress → Did
 print_line texts n c = with_line n c (spelled_all texts (operands n c.state))
 
 -- a built-in call with n operands
-abbrev pub built : List Text → BuiltName → ℕ → Course → Did
+abbrev pub built : List Text → BuiltName → ℕ → Progress → Did
 built texts Print n = print_line texts n
 built texts Region n = on_state new_region_change
 built texts Cown n = on_state new_cown_change

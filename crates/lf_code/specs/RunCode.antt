@@ -11,7 +11,7 @@ use Rattle.lf_base.specs.PlainChanges.{with_slots}
 use Rattle.lf_base.specs.PlainState.{Row, State}
 use Rattle.lf_code.specs.declared.body.Body.{Body}
 use Rattle.lf_code.specs.CodeStep.{Config, Over, Program, Running, code_step, new_frame, vars_at}
-use Rattle.lf_code.specs.Courses.{Course}
+use Rattle.lf_code.specs.Progress.{Progress}
 
 -- what comes of a behaviour: the contents of the cowns that it held and of those that it made, the rows that it froze, its lines,
 -- its fault where one ended it, and its spawns
@@ -28,15 +28,15 @@ abbrev pub first_slots : List Value → ℕ → List (Option Value)
 first_slots values vars = map Some values ++ replicate (vars - length values) None
 
 -- the course at the start of a body with so many variables, with the contents of the job's cowns and some frozen rows
-abbrev pub first_course : Job → List (CownId × Parked) → List Row → ℕ → ℕ → Course
-first_course job contents given vars ticks = record {
+abbrev pub first_progress : Job → List (CownId × Parked) → List Row → ℕ → ℕ → Progress
+first_progress job contents given vars ticks = record {
   state = with_slots (stored job.id contents given) (first_slots job.values vars);
   ticks = ticks;
   lines = [];
   spawns = [];
 }
 
-abbrev pub result_from : Course → Option FaultAt → State → RunResult
+abbrev pub result_from : Progress → Option FaultAt → State → RunResult
 result_from c fault last = record {
   held = parted last last.held;
   made = parted last last.made;
@@ -47,7 +47,7 @@ result_from c fault last = record {
 }
 
 -- a behaviour ends with this course
-abbrev pub result_of : Course → Option FaultAt → RunResult
+abbrev pub result_of : Progress → Option FaultAt → RunResult
 result_of c fault = result_from c fault (end_result c.state)
 
 -- so many instructions at most, until it is over
@@ -73,4 +73,4 @@ config_result (Running f fs c) = result_of c None
 abbrev pub run_code : Program → ℕ → Job → List (CownId × Parked) → List Row → RunResult
 run_code p ticks job contents given =
     config_result (steps p (most_steps p ticks)
-    (Running (new_frame job.body 0) [] (first_course job contents given (vars_at p job.body) ticks)))
+    (Running (new_frame job.body 0) [] (first_progress job contents given (vars_at p job.body) ticks)))

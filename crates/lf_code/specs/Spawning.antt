@@ -14,7 +14,7 @@ use Rattle.lf_base.specs.Operands.{set_value}
 use Rattle.lf_base.specs.Owners.{has_row}
 use Rattle.lf_base.specs.PlainChanges.{slot_at}
 use Rattle.lf_base.specs.PlainState.{State}
-use Rattle.lf_code.specs.Courses.{Course, Did, Does, Faulted}
+use Rattle.lf_code.specs.Progress.{Progress, Did, Does, Faulted}
 
 -- a cown name must hold a cown
 abbrev pub not_cown : Value → Option Fault
@@ -36,11 +36,11 @@ abbrev pub names_fault : (Value → Option Fault) → State → List ℕ → Opt
 names_fault refusal s [] = None
 names_fault refusal s (at ∷ ats) = option_or (name_fault refusal (slot_at s.slots at)) (names_fault refusal s ats)
 
-abbrev pub too_many_spawns : Course → Option Fault
+abbrev pub too_many_spawns : Progress → Option Fault
 too_many_spawns c = cond (ltb (length c.spawns) MOST_SPAWNS) None (Some TooManySpawns)
 
 -- cown names come first, then captures, then the number of spawns
-abbrev pub when_fault : List ℕ → List ℕ → Course → Option Fault
+abbrev pub when_fault : List ℕ → List ℕ → Progress → Option Fault
 when_fault cowns captures c =
     option_or (names_fault not_cown c.state cowns) (option_or (names_fault (not_shareable c.state) c.state captures) (too_many_spawns c))
 
@@ -58,10 +58,10 @@ abbrev pub spawn_of : ℕ → List ℕ → List ℕ → State → Spawn
 spawn_of body cowns captures s =
     record { body = body; cowns = distinct_cowns [] (values_at s cowns); values = values_at s (cowns ++ captures) }
 
-abbrev pub spawn_by : Option Fault → Course → Spawn → Did
+abbrev pub spawn_by : Option Fault → Progress → Spawn → Did
 spawn_by (Some fault) c spawn = Faulted fault
 spawn_by None c spawn = Does (record c { spawns = c.spawns ++ spawn ∷ [] })
 
 -- a `when` asks for a behaviour of that body; its names are the slots at these places
-abbrev pub spawns_one : ℕ → List ℕ → List ℕ → Course → Did
+abbrev pub spawns_one : ℕ → List ℕ → List ℕ → Progress → Did
 spawns_one body cowns captures c = spawn_by (when_fault cowns captures c) c (spawn_of body cowns captures c.state)

@@ -8,63 +8,63 @@ use Rattle.lf_code.specs.declared.body.Placed.{Placed}
 use Rattle.lf_code.specs.declared.instr.Instr.{Instr}
 use Rattle.lf_code.specs.declared.instr.Instr.TheVariants as instr
 use Rattle.lf_code.specs.declared.instr.Prefix.TheVariants.{Neg, Not}
-use Rattle.lf_code.specs.CodeStep.{Program, placed, body_end}
+use Rattle.lf_code.specs.CodeStep.{Program, on_line, body_end}
 use Rattle.lf_codegen.specs.Mentions.{args_count}
 use Rattle.lf_codegen.specs.Frames.{distinct, variables}
 use Rattle.lf_codegen.specs.declared.called.Called.{Called}
 use Rattle.lf_codegen.specs.declared.called.Called.TheVariants.{Built, Question, Function}
-use Rattle.lf_codegen.specs.Numbers.{Source, NamedFrame, named_frames, var_number, called_of, asked_number, when_number, cown_names}
+use Rattle.lf_codegen.specs.Numbers.{PlainScript, NamedFrame, named_frames, var_number, called_of, asked_number, when_number, cown_names}
 use Rattle.lf_codegen.specs.Numbers.{capture_names}
 
 -- `and` and `or`: the first operand's code from an address, the jump over the second one's, and a test
 abbrev pub joined_code : (ℕ → Instr) → ℕ → ℕ → List Placed → List Placed → List Placed
 joined_code jump line at left right =
-    left ++ placed line (jump (at + length left + 1 + length right + 1)) ∷ (right ++ placed line instr.Test ∷ [])
+    left ++ on_line line (jump (at + length left + 1 + length right + 1)) ∷ (right ++ on_line line instr.Test ∷ [])
 
 -- what follows an `if`'s test that ends before an address: without else, and with one
 abbrev pub branches_code : Bool → ℕ → ℕ → List Placed → List Placed → List Placed
-branches_code true line past body other = placed line (instr.Unless (past + 1 + length body)) ∷ body
+branches_code true line past body other = on_line line (instr.Unless (past + 1 + length body)) ∷ body
 branches_code false line past body other =
-    placed line (instr.Unless (past + 1 + length body + 1)) ∷
-        (body ++ placed line (instr.Jump (past + 1 + length body + 1 + length other)) ∷ other)
+    on_line line (instr.Unless (past + 1 + length body + 1)) ∷
+        (body ++ on_line line (instr.Jump (past + 1 + length body + 1 + length other)) ∷ other)
 
 -- what follows a loop's test that ends before an address, back to the loop's own tick
 abbrev pub round_code : ℕ → ℕ → ℕ → List Placed → List Placed
-round_code line top past body = placed line (instr.Unless (past + 1 + length body + 1)) ∷ (body ++ placed line (instr.Jump top) ∷ [])
+round_code line top past body = on_line line (instr.Unless (past + 1 + length body + 1)) ∷ (body ++ on_line line (instr.Jump top) ∷ [])
 
 abbrev pub is_empty_block : PlainBlock → Bool
 is_empty_block no_stmts = true
 is_empty_block (stmt s ss) = false
 
-module _ (s : Source) (vars : List Name) where
+module _ (s : PlainScript) (vars : List Name) where
   -- a call, with the code of its arguments
   abbrev pub call_code : Called → ℕ → PlainArgs → List Placed → List Placed
-  call_code (Built name) line es args_meaning = args_meaning ++ placed line (instr.Built name (args_count es)) ∷ []
-  call_code (Question name) line es args_meaning = placed line (instr.Ask name (asked_number vars es)) ∷ []
-  call_code (Function body) line es args_meaning = args_meaning ++ placed line (instr.Call body (args_count es)) ∷ []
+  call_code (Built name) line es args_meaning = args_meaning ++ on_line line (instr.Built name (args_count es)) ∷ []
+  call_code (Question name) line es args_meaning = on_line line (instr.Ask name (asked_number vars es)) ∷ []
+  call_code (Function body) line es args_meaning = args_meaning ++ on_line line (instr.Call body (args_count es)) ∷ []
 
   abbrev mutual
     -- the code of an expression on a line, from an address on
     pub expr_code : PlainExpr → ℕ → ℕ → List Placed
-    expr_code plain.Nothing line at = placed line instr.None ∷ []
-    expr_code plain.Yes line at = placed line (instr.Bool true) ∷ []
-    expr_code plain.No line at = placed line (instr.Bool false) ∷ []
-    expr_code (plain.Number n) line at = placed line (instr.Int n) ∷ []
-    expr_code (plain.Text t) line at = placed line (instr.Text t) ∷ []
-    expr_code plain.Object line at = placed line instr.Object ∷ []
-    expr_code (plain.Var x) line at = placed line (instr.Get (var_number vars x)) ∷ []
+    expr_code plain.Nothing line at = on_line line instr.None ∷ []
+    expr_code plain.Yes line at = on_line line (instr.Bool true) ∷ []
+    expr_code plain.No line at = on_line line (instr.Bool false) ∷ []
+    expr_code (plain.Number n) line at = on_line line (instr.Int n) ∷ []
+    expr_code (plain.Text t) line at = on_line line (instr.Text t) ∷ []
+    expr_code plain.Object line at = on_line line instr.Object ∷ []
+    expr_code (plain.Var x) line at = on_line line (instr.Get (var_number vars x)) ∷ []
     expr_code (plain.Field t k) line at =
         let ct = expr_code t line at in
-        ct ++ (expr_code k line (at + length ct) ++ placed line instr.Read ∷ [])
-    expr_code (plain.Move x) line at = placed line (instr.Take (var_number vars x)) ∷ []
+        ct ++ (expr_code k line (at + length ct) ++ on_line line instr.Read ∷ [])
+    expr_code (plain.Move x) line at = on_line line (instr.Take (var_number vars x)) ∷ []
     expr_code (plain.Remove t k) line at =
         let ct = expr_code t line at in
-        ct ++ (expr_code k line (at + length ct) ++ placed line instr.Remove ∷ [])
-    expr_code (plain.Neg a) line at = expr_code a line at ++ placed line (instr.Unary Neg) ∷ []
-    expr_code (plain.Not a) line at = expr_code a line at ++ placed line (instr.Unary Not) ∷ []
+        ct ++ (expr_code k line (at + length ct) ++ on_line line instr.Remove ∷ [])
+    expr_code (plain.Neg a) line at = expr_code a line at ++ on_line line (instr.Unary Neg) ∷ []
+    expr_code (plain.Not a) line at = expr_code a line at ++ on_line line (instr.Unary Not) ∷ []
     expr_code (plain.Binary op l r) line at =
         let cl = expr_code l line at in
-        cl ++ (expr_code r line (at + length cl) ++ placed line (instr.Binary op) ∷ [])
+        cl ++ (expr_code r line (at + length cl) ++ on_line line (instr.Binary op) ∷ [])
     expr_code (plain.And l r) line at =
         let cl = expr_code l line at in
         joined_code instr.And line at cl (expr_code r line (at + length cl + 1))
@@ -82,28 +82,28 @@ module _ (s : Source) (vars : List Name) where
   abbrev mutual
     pub stmt_code : PlainStmt → ℕ → List Placed
     stmt_code (plain.Assign line x e) at =
-        placed line instr.Tick ∷ (expr_code e line (at + 1) ++ placed line (instr.Set (var_number vars x)) ∷ [])
+        on_line line instr.Tick ∷ (expr_code e line (at + 1) ++ on_line line (instr.Set (var_number vars x)) ∷ [])
     stmt_code (plain.Store line t k e) at =
         let ct = expr_code t line (at + 1) in
         let ck = expr_code k line (at + 1 + length ct) in
-        placed line instr.Tick ∷ (ct ++ (ck ++ (expr_code e line (at + 1 + length ct + length ck) ++ placed line instr.Write ∷ [])))
-    stmt_code (plain.Drop line x) at = placed line instr.Tick ∷ placed line (instr.Drop (var_number vars x)) ∷ []
-    stmt_code (plain.Return line None) at = placed line instr.Tick ∷ placed line instr.None ∷ placed line instr.Return ∷ []
-    stmt_code (plain.Return line (Some e)) at = placed line instr.Tick ∷ (expr_code e line (at + 1) ++ placed line instr.Return ∷ [])
-    stmt_code (plain.Pass line) at = placed line instr.Tick ∷ []
-    stmt_code (plain.Eval line e) at = placed line instr.Tick ∷ (expr_code e line (at + 1) ++ placed line instr.Pop ∷ [])
+        on_line line instr.Tick ∷ (ct ++ (ck ++ (expr_code e line (at + 1 + length ct + length ck) ++ on_line line instr.Write ∷ [])))
+    stmt_code (plain.Drop line x) at = on_line line instr.Tick ∷ on_line line (instr.Drop (var_number vars x)) ∷ []
+    stmt_code (plain.Return line None) at = on_line line instr.Tick ∷ on_line line instr.None ∷ on_line line instr.Return ∷ []
+    stmt_code (plain.Return line (Some e)) at = on_line line instr.Tick ∷ (expr_code e line (at + 1) ++ on_line line instr.Return ∷ [])
+    stmt_code (plain.Pass line) at = on_line line instr.Tick ∷ []
+    stmt_code (plain.Eval line e) at = on_line line instr.Tick ∷ (expr_code e line (at + 1) ++ on_line line instr.Pop ∷ [])
     stmt_code (plain.If line e body other) at =
         let ce = expr_code e line (at + 1) in
         let cy = block_code body (at + 1 + length ce + 1) in
-        placed line instr.Tick ∷ (ce ++ branches_code (is_empty_block other) line (at + 1 + length ce) cy
+        on_line line instr.Tick ∷ (ce ++ branches_code (is_empty_block other) line (at + 1 + length ce) cy
             (block_code other (at + 1 + length ce + 1 + length cy + 1)))
     stmt_code (plain.While line e body) at =
         let ce = expr_code e line (at + 1 + 1) in
-        placed line instr.Tick ∷ placed line instr.Tick ∷
+        on_line line instr.Tick ∷ on_line line instr.Tick ∷
             (ce ++ round_code line (at + 1) (at + 1 + 1 + length ce) (block_code body (at + 1 + 1 + length ce + 1)))
     stmt_code (plain.When line cowns captures body) at =
-        placed line instr.Tick
-        ∷ placed line (instr.When (when_number s.tree line) (map (var_number vars) (cown_names cowns))
+        on_line line instr.Tick
+        ∷ on_line line (instr.When (when_number s.tree line) (map (var_number vars) (cown_names cowns))
             (map (var_number vars) (capture_names cowns captures)))
         ∷ []
 
@@ -117,7 +117,7 @@ module _ (s : Source) (vars : List Name) where
   body_code b = block_code b 0 ++ body_end
 
 -- the code of one body
-abbrev pub generated_body : Source → NamedFrame → Body
+abbrev pub generated_body : PlainScript → NamedFrame → Body
 generated_body s f = record {
   name = f.name;
   params = length (distinct f.frame.own);
@@ -126,5 +126,5 @@ generated_body s f = record {
 }
 
 -- the code of a script
-abbrev pub program_of : Source → Program
+abbrev pub program_of : PlainScript → Program
 program_of s = record { bodies = map (generated_body s) (named_frames s.tree); texts = s.texts }

@@ -15,7 +15,7 @@ use Rattle.lf_codegen.specs.Callees.{BuiltIn, built_ins}
 use Rattle.lf_codegen.specs.Frames.{PlainFrame, main_frame, function_frame, when_frames, distinct, variables}
 
 -- a script: its texts and its tree
-pub record Source : Type 0 where
+pub record PlainScript : Type 0 where
   pub texts : List Text
   pub tree : PlainTree
 
@@ -31,7 +31,7 @@ called_in (b ∷ bs) text function = if bytes_eq text b.name then b.called else 
 abbrev pub function_number : PlainTree → TextId → ℕ
 function_number tree id = 1 + position_or_len (λ f. same_text id f.name.id) tree.functions
 
-abbrev pub called_of : Source → TextId → Called
+abbrev pub called_of : PlainScript → TextId → Called
 called_of s id = called_in built_ins (text_at s.texts id.index) (function_number s.tree id)
 
 -- the variable that a question is asked of
@@ -75,8 +75,8 @@ abbrev pub frame_block : Option NamedFrame → PlainBlock
 frame_block None = no_stmts
 frame_block (Some f) = f.frame.body
 
-abbrev pub body_vars : Source → ℕ → List Name
+abbrev pub body_vars : PlainScript → ℕ → List Name
 body_vars s body = frame_vars (slice_get (named_frames s.tree) body)
 
-abbrev pub body_block : Source → ℕ → PlainBlock
+abbrev pub body_block : PlainScript → ℕ → PlainBlock
 body_block s body = frame_block (slice_get (named_frames s.tree) body)

@@ -1,5 +1,6 @@
 ghost use Rattle.std.specs.Prelude.{◌≡◌, map};
 ghost use Rattle.lf_codegen.specs.Callees as spec;
+ghost use Rattle.lf_codegen.specs.Numbers.{called_in as called_in_spec};
 ghost use Rattle.lf_codegen.specs.TablesMean.{built_in_row};
 
 use crate::called::Called;
@@ -147,4 +148,25 @@ fn built_in_among(rows: &[BuiltIn], name: &[u8]) -> Option<Callee>
         }
     }
     None
+}
+
+fn called_in(rows: &[BuiltIn], name: &[u8], function: u32) -> Called
+    ensures { result ≡ called_in_spec (map built_in_row rows.now) name.now function }
+{
+    for row in rows {
+        if name == row.name.as_bytes() {
+            return row.called;
+        }
+    }
+    Called::Function(function)
+}
+
+impl Called {
+    /// What a call of a name calls: the built-in call of that name, or else the function
+    /// with this body.
+    pub fn named(name: &[u8], function: u32) -> Called
+        ensures { result ≡ called_in_spec spec.built_ins name.now function }
+    {
+        called_in(&BUILT_INS, name, function)
+    }
 }

@@ -25,6 +25,9 @@ mod script;
 mod variables;
 
 pub use called::Called;
+pub use frame::Frame;
+pub use frames::{joined, when_frames_of};
 pub use resolved::Resolved;
 pub use resolving::resolve;
 pub use script::{Script, read};
+pub use variables::{body_names, distinct};

@@ -12,10 +12,10 @@ use Rattle.lf_code.specs.declared.instr.Instr.{Instr}
 use Rattle.lf_code.specs.declared.instr.Instr.TheVariants as instr
 use Rattle.lf_code.specs.CodeStep.{Frame, Config, Running, Over, Program, code_step, act, acts, act_at, code_at, list_of, at_address}
 use Rattle.lf_code.specs.CodeStep.{to_address, return_to, returned, call_by, frames_left, new_frame, vars_at, no_truth, led, IsOver}
-use Rattle.lf_code.specs.Courses.{Course, Did, Does, Faulted, flow_of, does, on_state, to_state, by_truth}
+use Rattle.lf_code.specs.Progress.{Progress, Did, Does, Faulted, flow_of, does, on_state, to_state, by_truth}
 use Rattle.lf_code.specs.RunCode.{steps, longest, most_steps}
 use Rattle.lf_code.specs.Ticked.{Ticked, target_of, instr_of}
-use Rattle.lf_code.proofs.Ending.ActionTicks.{Within, on_state_within, to_state_within, test_within, spawn_within, built_within}
+use Rattle.lf_code.proofs.Ending.ActionTicks.{TicksWithin, on_state_within, to_state_within, test_within, spawn_within, built_within}
 use Rattle.lf_base.specs.HeapCalls.{lift_change, load_change, new_object_change, read_change, take_change, unset_change, write_change}
 use Rattle.lf_base.specs.Operands.{popped, pushed, put_down}
 use Rattle.lf_code.specs.Actions.{base_of, binary_change, enter_by, last_truth, leave, pop_value, push_value, test_truth, tick_by}
@@ -97,7 +97,7 @@ module _ (p : Program) where
   is_positive : (t k r : ℕ) → 0 < weight t (suc k) w r
   is_positive t k r = positive t k w r (omega arith)
 
-  module _ (f : Frame) (fs : List Frame) (c : Course) (small : f.at ≤ l) where
+  module _ (f : Frame) (fs : List Frame) (c : Progress) (small : f.at ≤ l) where
     -- the weight with this rank
     abbrev here : ℕ → ℕ
     here q = weight c.ticks (suc (length fs)) w q
@@ -105,15 +105,15 @@ module _ (p : Program) where
     rank_next : rank f.body (f.at + 1) < l + 1 - f.at
     rank_next = omega (arith, small, rank_le l (slice_get (code_at p f.body) (f.at + 1)) (f.at + 1))
 
-    at_fewer : (d : Course) (a q : ℕ) → d.ticks ≤ c.ticks → rank f.body a < q → measure (at_address f fs a d) < here q
+    at_fewer : (d : Progress) (a q : ℕ) → d.ticks ≤ c.ticks → rank f.body a < q → measure (at_address f fs a d) < here q
     at_fewer d a q le lt = by_rank d.ticks c.ticks (suc (length fs)) w (rank f.body a) q le lt
 
-    did : (line : ℕ) (x : Did) → Within c.ticks (flow_of line c x)
+    did : (line : ℕ) (x : Did) → TicksWithin c.ticks (flow_of line c x)
         → measure (led (at_address f fs (f.at + 1)) (return_to f fs) (flow_of line c x)) < here (l + 1 - f.at)
     did line (Does d) h = at_fewer d (f.at + 1) (l + 1 - f.at) h rank_next
     did line (Faulted fault) h = is_positive c.ticks (length fs) (l + 1 - f.at)
 
-    acted : (line : ℕ) (action : Course → Did) → Within c.ticks (does line action c)
+    acted : (line : ℕ) (action : Progress → Did) → TicksWithin c.ticks (does line action c)
         → measure (acts line action f fs c) < here (l + 1 - f.at)
     acted line action h = did line (action c) h
 
@@ -140,18 +140,18 @@ module _ (p : Program) where
     called zero line body count q = no_frame_left_falls line c.ticks q
     called (suc n) line body count q = enters line body (base_of count c) (vars_at p body - count) c.ticks q refl
 
-    truth_falls : (o : Option Bool) (q : ℕ) (n h k : Course → Config) → measure (n c) < q → measure (h c) < q → measure (k c) < q
+    truth_falls : (o : Option Bool) (q : ℕ) (n h k : Progress → Config) → measure (n c) < q → measure (h c) < q → measure (k c) < q
         → measure (by_truth o c n h k) < q
     truth_falls None q n h k x y z = x
     truth_falls (Some true) q n h k x y z = y
     truth_falls (Some false) q n h k x y z = z
 
-  returns : (gs : List Frame) (f : Frame) (c : Course) (q : ℕ)
+  returns : (gs : List Frame) (f : Frame) (c : Progress) (q : ℕ)
       → measure (returned gs (leave f.base c)) < weight c.ticks (suc (length gs)) w q
   returns [] f c q = is_positive c.ticks 0 q
   returns (g ∷ gs) f c q = by_return c.ticks (suc (length gs)) w (rank g.body g.at) q (rank_below g.body g.at)
 
-  module _ (f : Frame) (fs : List Frame) (c : Course) (small : f.at ≤ l) (line : ℕ) where
+  module _ (f : Frame) (fs : List Frame) (c : Progress) (small : f.at ≤ l) (line : ℕ) where
     abbrev top : ℕ
     top = weight c.ticks (suc (length fs)) w (l + 1 - f.at)
 
@@ -159,10 +159,10 @@ module _ (p : Program) where
     nothing = is_positive c.ticks (length fs) (l + 1 - f.at)
 
     -- a way on to the next instruction, and one to the target
-    next_is : (d : Course) → d.ticks ≤ c.ticks → measure (at_address f fs (f.at + 1) d) < top
+    next_is : (d : Progress) → d.ticks ≤ c.ticks → measure (at_address f fs (f.at + 1) d) < top
     next_is d le = at_fewer f fs c small d (f.at + 1) (l + 1 - f.at) le (rank_next f fs c small)
 
-    target_is : (a : ℕ) → (a ≤ f.at → instr_of (slice_get (code_at p f.body) a) ≡ Some instr.Tick) → (d : Course) → d.ticks ≤ c.ticks
+    target_is : (a : ℕ) → (a ≤ f.at → instr_of (slice_get (code_at p f.body) a) ≡ Some instr.Tick) → (d : Progress) → d.ticks ≤ c.ticks
         → measure (at_address f fs a d) < top
     target_is a back d le =
         at_fewer f fs c small d a (l + 1 - f.at) le
@@ -217,17 +217,17 @@ module _ (p : Program) where
         acted f fs c small line (spawns_one body vs ws) (spawn_within (when_fault vs ws c) line c (spawn_of body vs ws c.state))
     falls_by instr.Pop back = acted f fs c small line pop_value (to_state_within line popped c)
 
-  falls_at : Ticked p → (f : Frame) (fs : List Frame) (c : Course) (o : Option Placed) → slice_get (code_at p f.body) f.at ≡ o
+  falls_at : Ticked p → (f : Frame) (fs : List Frame) (c : Progress) (o : Option Placed) → slice_get (code_at p f.body) f.at ≡ o
       → measure (act_at p o f fs c) < weight c.ticks (suc (length fs)) w (rank_of l o f.at)
   falls_at good f fs c None e = is_positive c.ticks (length fs) 0
   falls_at good f fs c (Some i) e =
       let within : f.at < length (code_at p f.body) = slice_get_within (code_at p f.body) f.at i e in
       falls_by f fs c (omega (arith, within, longest_is p.bodies f.body)) i.line i.instr (λ a. good f.body f.at a i e)
 
-  falls : Ticked p → (f : Frame) (fs : List Frame) (c : Course) → measure (code_step p (Running f fs c)) < measure (Running f fs c)
+  falls : Ticked p → (f : Frame) (fs : List Frame) (c : Progress) → measure (code_step p (Running f fs c)) < measure (Running f fs c)
   falls good f fs c = falls_at good f fs c (slice_get (code_at p f.body) f.at) refl
 
-  stays_over : (n : ℕ) (c : Course) (g : Option FaultAt) → IsOver (steps p n (Over c g))
+  stays_over : (n : ℕ) (c : Progress) (g : Option FaultAt) → IsOver (steps p n (Over c g))
   stays_over zero c g = tt
   stays_over (suc n) c g = tt
 
@@ -237,7 +237,7 @@ module _ (p : Program) where
   comes_over good (suc n) (Running f fs c) lt = comes_over good n (code_step p (Running f fs c)) (omega (arith, lt, falls good f fs c))
 
   -- as many instructions as that are enough
-  pub enough : Ticked p → (body base : ℕ) (c : Course) → IsOver (steps p (most_steps p c.ticks) (Running (new_frame body base) [] c))
+  pub enough : Ticked p → (body base : ℕ) (c : Progress) → IsOver (steps p (most_steps p c.ticks) (Running (new_frame body base) [] c))
   enough good body base c =
       comes_over good (most_steps p c.ticks) (Running (new_frame body base) [] c) (by_enough c.ticks w (rank body 0) (rank_below body 0))
     where

@@ -4,8 +4,8 @@ use Rattle.std.specs.Prelude.{slice_get}
 use Rattle.lf_base.specs.declared.faults.FaultAt.{FaultAt}
 use Rattle.lf_code.specs.declared.body.Placed.{Placed}
 use Rattle.lf_code.specs.declared.instr.Instr.{Instr}
-use Rattle.lf_code.specs.CodeStep.{Frame, Config, Running, Over, Program, code_step, act, act_at, code_at, placed, IsOver}
-use Rattle.lf_code.specs.Courses.{Course}
+use Rattle.lf_code.specs.CodeStep.{Frame, Config, Running, Over, Program, code_step, act, act_at, code_at, on_line, IsOver}
+use Rattle.lf_code.specs.Progress.{Progress}
 use Rattle.lf_code.specs.RunCode.{steps}
 
 -- one configuration leads to another
@@ -19,14 +19,14 @@ module _ (p : Program) where
   on (go r) q = go (on r q)
 
   -- one instruction
-  pub one : (f : Frame) (fs : List Frame) (c : Course) (line : ℕ) (i : Instr) (y : Config)
-      → slice_get (code_at p f.body) f.at ≡ Some (placed line i) → act p line i f fs c ≡ y → Reaches p (Running f fs c) y
+  pub one : (f : Frame) (fs : List Frame) (c : Progress) (line : ℕ) (i : Instr) (y : Config)
+      → slice_get (code_at p f.body) f.at ≡ Some (on_line line i) → act p line i f fs c ≡ y → Reaches p (Running f fs c) y
   one f fs c line i y at e =
       let made : code_step p (Running f fs c) ≡ y = ap (λ o. act_at p o f fs c) at ∙ e in
       go (subst (λ d. Reaches p d y) (sym made) stop)
 
   -- what is over leads nowhere else
-  from_over : (x y : Config) (d : Course) (g : Option FaultAt) → x ≡ Over d g → Reaches p x y → y ≡ Over d g
+  from_over : (x y : Config) (d : Progress) (g : Option FaultAt) → x ≡ Over d g → Reaches p x y → y ≡ Over d g
   from_over x y d g e stop = e
   from_over x y d g e (go r) = from_over (code_step p x) y d g (ap (code_step p) e) r
 
@@ -39,22 +39,22 @@ module _ (p : Program) where
   done (suc n) (Running f fs d) y (go r) o h = done n (code_step p (Running f fs d)) y r o h
 
 -- these instructions stand from one address on, and end before another
-abbrev pub Stands : List Placed → ℕ → List Placed → ℕ → Type 0
-Stands code a [] b = a ≡ b
-Stands code a (i ∷ is) b = (slice_get code a ≡ Some i) × Stands code (a + 1) is b
+abbrev pub StandsAt : List Placed → ℕ → List Placed → ℕ → Type 0
+StandsAt code a [] b = a ≡ b
+StandsAt code a (i ∷ is) b = (slice_get code a ≡ Some i) × StandsAt code (a + 1) is b
 
-pub stands_front : (code : List Placed) (a b : ℕ) (xs ys : List Placed) → Stands code a (xs ++ ys) b → Stands code a xs (a + length xs)
+pub stands_front : (code : List Placed) (a b : ℕ) (xs ys : List Placed) → StandsAt code a (xs ++ ys) b → StandsAt code a xs (a + length xs)
 stands_front code a b [] ys h = omega arith
 stands_front code a b (x ∷ xs) ys h =
     let e : a + 1 + length xs ≡ a + suc (length xs) = omega arith in
-    (h.0, subst (λ n. Stands code (a + 1) xs n) e (stands_front code (a + 1) b xs ys h.1))
+    (h.0, subst (λ n. StandsAt code (a + 1) xs n) e (stands_front code (a + 1) b xs ys h.1))
 
-pub stands_back : (code : List Placed) (a b : ℕ) (xs ys : List Placed) → Stands code a (xs ++ ys) b → Stands code (a + length xs) ys b
-stands_back code a b [] ys h = let e : a ≡ a + 0 = omega arith in subst (λ n. Stands code n ys b) e h
+pub stands_back : (code : List Placed) (a b : ℕ) (xs ys : List Placed) → StandsAt code a (xs ++ ys) b → StandsAt code (a + length xs) ys b
+stands_back code a b [] ys h = let e : a ≡ a + 0 = omega arith in subst (λ n. StandsAt code n ys b) e h
 stands_back code a b (x ∷ xs) ys h =
     let e : a + 1 + length xs ≡ a + suc (length xs) = omega arith in
-    subst (λ n. Stands code n ys b) e (stands_back code (a + 1) b xs ys h.1)
+    subst (λ n. StandsAt code n ys b) e (stands_back code (a + 1) b xs ys h.1)
 
-pub stands_end : (code : List Placed) (a b : ℕ) (xs : List Placed) → Stands code a xs b → a + length xs ≡ b
+pub stands_end : (code : List Placed) (a b : ℕ) (xs : List Placed) → StandsAt code a xs b → a + length xs ≡ b
 stands_end code a b [] h = omega (arith, h)
 stands_end code a b (x ∷ xs) h = omega (arith, stands_end code (a + 1) b xs h.1)

@@ -8,7 +8,7 @@ use Rattle.lf_code.specs.declared.body.Placed.{Placed}
 use Rattle.lf_code.specs.declared.instr.Instr.{Instr}
 use Rattle.lf_code.specs.declared.instr.Instr.TheVariants as instr
 use Rattle.lf_code.specs.declared.instr.Prefix.TheVariants.{Neg, Not}
-use Rattle.lf_code.specs.CodeStep.{Program, code_at, placed, body_end}
+use Rattle.lf_code.specs.CodeStep.{Program, code_at, on_line, body_end}
 use Rattle.lf_code.specs.Operations.{leaves, Way, way, needs, ways, IsReached, HasOperands}
 use Rattle.lf_code.specs.Operations as valid
 use Rattle.lf_parser.specs.declared.name.Name.{Name}
@@ -19,7 +19,7 @@ use Rattle.lf_codegen.specs.GeneratedCode.{round_code, joined_code, is_empty_blo
 use Rattle.lf_codegen.specs.Mentions.{args_count}
 use Rattle.lf_codegen.specs.declared.called.Called.{Called}
 use Rattle.lf_codegen.specs.declared.called.Called.TheVariants.{Built, Question, Function}
-use Rattle.lf_codegen.specs.Numbers.{Source, called_of, asked_number, var_number, when_number, cown_names, capture_names, body_vars}
+use Rattle.lf_codegen.specs.Numbers.{PlainScript, called_of, asked_number, var_number, when_number, cown_names, capture_names, body_vars}
 use Rattle.lf_codegen.specs.Numbers.{body_block}
 
 -- these numbers stand in the table from one address on, and end before another
@@ -39,7 +39,7 @@ lie_back t a b (x ∷ xs) ys h =
     let e : a + 1 + length xs ≡ a + suc (length xs) = omega arith in
     subst (λ n. Lie t n ys b) e (lie_back t (a + 1) b xs ys h.1)
 
-module _ (s : Source) where
+module _ (s : PlainScript) where
   abbrev call_depths : Called → ℕ → PlainArgs → List ℕ → List ℕ
   call_depths (Built name) d es args_meaning = args_meaning ++ (d + args_count es) ∷ []
   call_depths (Question name) d es args_meaning = d ∷ []
@@ -149,12 +149,12 @@ module _ (t : List ℕ) where
   -- one instruction that goes to the next one
   single : (line : ℕ) (i : Instr) (d e a b : ℕ) → ways i a (d - needs i) ≡ way (a + 1) (d - needs i + leaves i) ∷ [] → needs i ≤ d
       → d - needs i + leaves i ≡ e
-      → Lie t a (d ∷ []) b → slice_get t b ≡ Some e → Flows t a (placed line i ∷ []) (d ∷ []) b
+      → Lie t a (d ∷ []) b → slice_get t b ≡ Some e → Flows t a (on_line line i ∷ []) (d ∷ []) b
   single line i d e a b on_way enough is_left h last =
       let there : slice_get t (a + 1) ≡ Some (d - needs i + leaves i) = ap (slice_get t) h.1 ∙ last ∙ ap Some (sym is_left) in
       ((enough, subst (AllWays t) (sym on_way) (there, tt), tt), h.1)
 
-  module _ (s : Source) (vars : List Name) where
+  module _ (s : PlainScript) (vars : List Name) where
     abbrev FlowsAll : PlainExpr → Type 0
     FlowsAll e = (line d a b : ℕ) → Lie t a (expr_depths s e d) b → slice_get t b ≡ Some (d + 1)
         → Flows t a (expr_code s vars e line a) (expr_depths s e d) b
@@ -162,7 +162,7 @@ module _ (t : List ℕ) where
     one_flows : (e : PlainExpr) → FlowsAll e → (line : ℕ) (i : Instr) (d a b : ℕ) → needs i ≡ 1 → leaves i ≡ 1
         → ((at rest : ℕ) → ways i at rest ≡ way (at + 1) (rest + leaves i) ∷ [])
         → Lie t a (expr_depths s e d ++ (d + 1) ∷ []) b → slice_get t b ≡ Some (d + 1)
-            → Flows t a (expr_code s vars e line a ++ placed line i ∷ []) (expr_depths s e d ++ (d + 1) ∷ []) b
+            → Flows t a (expr_code s vars e line a ++ on_line line i ∷ []) (expr_depths s e d ++ (d + 1) ∷ []) b
     one_flows e go_e line i d a b n g on_way h last =
         let ds = expr_depths s e d in
         let f = go_e line d a (a + length ds) (lie_front t a b ds _ h) (lie_back t a b ds _ h).0 in
@@ -173,7 +173,7 @@ module _ (t : List ℕ) where
     two_flows : (l r : PlainExpr) → FlowsAll l → FlowsAll r → (line : ℕ) (i : Instr) (d a b : ℕ) → needs i ≡ 2 → leaves i ≡ 1
         → ((at rest : ℕ) → ways i at rest ≡ way (at + 1) (rest + leaves i) ∷ [])
         → Lie t a (expr_depths s l d ++ (expr_depths s r (d + 1) ++ (d + 2) ∷ [])) b → slice_get t b ≡ Some (d + 1)
-        → Flows t a (expr_code s vars l line a ++ (expr_code s vars r line (a + length (expr_code s vars l line a)) ++ placed line i ∷ []))
+        → Flows t a (expr_code s vars l line a ++ (expr_code s vars r line (a + length (expr_code s vars l line a)) ++ on_line line i ∷ []))
             (expr_depths s l d ++ (expr_depths s r (d + 1) ++ (d + 2) ∷ [])) b
     two_flows l r go_l go_r line i d a b n g on_way h last =
         let dl = expr_depths s l d in
@@ -209,7 +209,7 @@ module _ (t : List ℕ) where
         let fr = go_r line d (m + 1) (m + 1 + length dr) (lie_front t (m + 1) b dr _ hr) (lie_back t (m + 1) b dr _ hr).0 in
         let ft = single line instr.Test (d + 1) (d + 1) (m + 1 + length cr) b refl (omega arith) (omega arith)
             (behind (m + 1) b cr dr _ fr.0 hr) last in
-        let rest : Flows t (m + 1) (cr ++ placed line instr.Test ∷ []) (dr ++ (d + 1) ∷ []) b = joins (m + 1) b cr _ dr _ fr.0 ft in
+        let rest : Flows t (m + 1) (cr ++ on_line line instr.Test ∷ []) (dr ++ (d + 1) ∷ []) b = joins (m + 1) b cr _ dr _ fr.0 ft in
         let target = m + 1 + length cr + 1 in
         let to_end : slice_get t target ≡ Some (d + 1 - 1 + 1) = let e : d + 1 ≡ d + 1 - 1 + 1 =
             omega arith in ap (slice_get t) ft.1 ∙ last ∙ ap Some e in
@@ -289,7 +289,7 @@ abbrev branches_depths : Bool → List ℕ → List ℕ → List ℕ
 branches_depths true body other = 1 ∷ body
 branches_depths false body other = 1 ∷ (body ++ 0 ∷ other)
 
-module _ (s : Source) where
+module _ (s : PlainScript) where
   abbrev mutual
     stmt_depths : PlainStmt → List ℕ
     stmt_depths (plain.Assign line x e) = 0 ∷ (expr_depths s e 0 ++ 1 ∷ [])
@@ -327,14 +327,14 @@ module _ (s : Source) where
   module _ (t : List ℕ) (vars : List Name) where
     -- a tick, and what follows
     ticked : (line a b : ℕ) (xs : List Placed) (ds : List ℕ) → slice_get t (a + 1) ≡ Some 0 → Flows t (a + 1) xs ds b
-        → Flows t a (placed line instr.Tick ∷ xs) (0 ∷ ds) b
+        → Flows t a (on_line line instr.Tick ∷ xs) (0 ∷ ds) b
     ticked line a b xs ds there f = ((omega arith, (there, tt), f.0), omega (arith, f.1))
 
     -- an expression, and an instruction that takes it and goes on
     taken : (e : PlainExpr) (line : ℕ) (i : Instr) (a b : ℕ) → needs i ≡ 1
         → ((at rest : ℕ) → (ways i at rest ≡ way (at + 1) (rest + 0) ∷ []) ⊎ (ways i at rest ≡ []))
         → Lie t a (expr_depths s e 0 ++ 1 ∷ []) b → slice_get t b ≡ Some 0
-            → Flows t a (expr_code s vars e line a ++ placed line i ∷ []) (expr_depths s e 0 ++ 1 ∷ []) b
+            → Flows t a (expr_code s vars e line a ++ on_line line i ∷ []) (expr_depths s e 0 ++ 1 ∷ []) b
     taken e line i a b n on_way h last =
         let ds = expr_depths s e 0 in
         let ce = expr_code s vars e line a in
@@ -400,9 +400,9 @@ module _ (s : Source) where
         let j = past + 1 + length cy in
         let co = block_code s vars other (j + 1) in
         let g = go_other (j + 1) b hj.1 last in
-        let jump : Flows t j (placed line (instr.Jump (j + 1 + length co)) ∷ co) (0 ∷ block_depths other) b =
+        let jump : Flows t j (on_line line (instr.Jump (j + 1 + length co)) ∷ co) (0 ∷ block_depths other) b =
             ((omega arith, (ap (slice_get t) g.1 ∙ last, tt), g.0), omega (arith, g.1)) in
-        let whole = joins t (past + 1) b cy (placed line (instr.Jump (j + 1 + length co)) ∷ co) dy (0 ∷ block_depths other) f.0 jump in
+        let whole = joins t (past + 1) b cy (on_line line (instr.Jump (j + 1 + length co)) ∷ co) dy (0 ∷ block_depths other) f.0 jump in
         ((omega arith, (block_first t other (j + 1) b hj.1 last,
             (block_first t body (past + 1) m (lie_front t (past + 1) b dy _ h.1) jump_at.0, tt)), whole.0), omega (arith, whole.1))
 
@@ -442,15 +442,15 @@ module _ (s : Source) where
         let jump_at = lie_back t (past + 1) b dk _ hb in
         let g = go (past + 1) (past + 1 + length dk) (lie_front t (past + 1) b dk _ hb) jump_at.0 in
         let hj = behind t (past + 1) b ck dk _ g.0 hb in
-        let jump : Flows t (past + 1 + length ck) (placed line (instr.Jump (a + 1)) ∷ []) (0 ∷ []) b =
+        let jump : Flows t (past + 1 + length ck) (on_line line (instr.Jump (a + 1)) ∷ []) (0 ∷ []) b =
             ((omega arith, (h.1.0, tt), tt), hj.1) in
-        let rest : Flows t (past + 1) (ck ++ placed line (instr.Jump (a + 1)) ∷ []) (dk ++ 0 ∷ []) b =
+        let rest : Flows t (past + 1) (ck ++ on_line line (instr.Jump (a + 1)) ∷ []) (dk ++ 0 ∷ []) b =
             joins t (past + 1) b ck _ dk _ g.0 jump in
         let top : Flows t past (round_code line (a + 1) past ck) (1 ∷ (dk ++ 0 ∷ [])) b =
               ((omega arith, (ap (slice_get t) hj.1
                   ∙ last, (block_first t k (past + 1) _ (lie_front t (past + 1) b dk _ hb) jump_at.0, tt)), rest.0), omega
                   (arith, rest.1)) in
-        ticked line a b (placed line instr.Tick ∷ (ce ++ round_code line (a + 1) past ck)) (0 ∷ (ds ++ 1 ∷ (dk ++ 0 ∷ []))) h.1.0
+        ticked line a b (on_line line instr.Tick ∷ (ce ++ round_code line (a + 1) past ck)) (0 ∷ (ds ++ 1 ∷ (dk ++ 0 ∷ []))) h.1.0
             (ticked line (a + 1) b (ce ++ round_code line (a + 1) past ck) (ds ++ 1 ∷ (dk ++ 0 ∷ [])) (expr_at e (a + 1 + 1) b _ h.1.1)
             (joins t (a + 1 + 1) b ce _ ds _ f.0 top))
 
@@ -462,10 +462,10 @@ module _ (s : Source) where
           (taken e line (instr.Set (var_number vars x)) (a + 1) b refl (λ at rest. inl refl) h.1 last)
       stmt_flows (plain.Store line x k e) a b h last = store_flows x k e line a b h last
       stmt_flows (plain.Drop line x) a b h last =
-          ticked line a b (placed line (instr.Drop (var_number vars x)) ∷ []) (0 ∷ []) h.1.0
+          ticked line a b (on_line line (instr.Drop (var_number vars x)) ∷ []) (0 ∷ []) h.1.0
           (single t line (instr.Drop (var_number vars x)) 0 0 (a + 1) b refl (omega arith) refl h.1 last)
       stmt_flows (plain.Return line None) a b h last =
-          ticked line a b (placed line instr.None ∷ placed line instr.Return ∷ []) (0 ∷ 1 ∷ []) h.1.0
+          ticked line a b (on_line line instr.None ∷ on_line line instr.Return ∷ []) (0 ∷ 1 ∷ []) h.1.0
               ((omega arith, (h.1.1.0, tt), (omega arith, tt, tt)), omega (arith, h.1.1.1))
       stmt_flows (plain.Return line (Some e)) a b h last =
           ticked line a b _ _ (expr_at e (a + 1) b _ h.1) (taken e line instr.Return (a + 1) b refl (λ at rest. inr refl) h.1 last)
@@ -477,7 +477,7 @@ module _ (s : Source) where
       stmt_flows (plain.When line cowns captures k) a b h last =
           let i = instr.When (when_number s.tree line) (map (var_number vars) (cown_names cowns))
               (map (var_number vars) (capture_names cowns captures)) in
-          ticked line a b (placed line i ∷ []) (0 ∷ []) h.1.0 (single t line i 0 0 (a + 1) b refl (omega arith) refl h.1 last)
+          ticked line a b (on_line line i ∷ []) (0 ∷ []) h.1.0 (single t line i 0 0 (a + 1) b refl (omega arith) refl h.1 last)
 
       block_flows : (k : PlainBlock) (a b : ℕ) → Lie t a (block_depths k) b → slice_get t b ≡ Some 0
           → Flows t a (block_code s vars k a) (block_depths k) b
@@ -549,7 +549,7 @@ has_operands t list f z = record {
     one_of : (at d e : ℕ) → slice_get t at ≡ Some d → slice_get t at ≡ Some e → d ≡ e
     one_of at d e p q = cc
 
-pub body_has_operands : (s : Source) (vars : List Name) (k : PlainBlock) → HasOperands (body_code s vars k)
+pub body_has_operands : (s : PlainScript) (vars : List Name) (k : PlainBlock) → HasOperands (body_code s vars k)
 body_has_operands s vars k =
     let t = body_depths s k in
     let dk = block_depths s k in

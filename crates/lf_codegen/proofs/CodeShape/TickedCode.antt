@@ -6,9 +6,9 @@ use Rattle.lf_code.specs.declared.body.Placed.{Placed}
 use Rattle.lf_code.specs.declared.instr.Instr.{Instr}
 use Rattle.lf_code.specs.declared.instr.Instr.TheVariants as instr
 use Rattle.lf_code.specs.declared.instr.Prefix.TheVariants.{Neg, Not}
-use Rattle.lf_code.specs.CodeStep.{Program, code_at, placed, body_end}
+use Rattle.lf_code.specs.CodeStep.{Program, code_at, on_line, body_end}
 use Rattle.lf_code.specs.Ticked.{Ticked, IsTicked, target_of, instr_of}
-use Rattle.lf_code.proofs.Ending.Reaching.{Stands, stands_front, stands_back}
+use Rattle.lf_code.proofs.Ending.Reaching.{StandsAt, stands_front, stands_back}
 use Rattle.lf_parser.specs.declared.name.Name.{Name}
 use Rattle.lf_parser.specs.Plain.{PlainExpr, PlainArgs, PlainStmt, PlainBlock, no_args, arg, no_stmts, stmt}
 use Rattle.lf_parser.specs.Plain as plain
@@ -17,7 +17,7 @@ use Rattle.lf_codegen.specs.GeneratedCode.{round_code, joined_code, is_empty_blo
 use Rattle.lf_codegen.specs.Mentions.{args_count}
 use Rattle.lf_codegen.specs.declared.called.Called.{Called}
 use Rattle.lf_codegen.specs.declared.called.Called.TheVariants.{Built, Question, Function}
-use Rattle.lf_codegen.specs.Numbers.{Source, called_of, asked_number, var_number, when_number, cown_names, capture_names, body_vars}
+use Rattle.lf_codegen.specs.Numbers.{PlainScript, called_of, asked_number, var_number, when_number, cown_names, capture_names, body_vars}
 use Rattle.lf_codegen.specs.Numbers.{body_block}
 use Rattle.lf_codegen.proofs.Following.Calls.{code_is, block_stands}
 
@@ -43,7 +43,7 @@ module _ (code : List Placed) where
       (h.0, joins (at + 1) xs ys h.1 (subst (λ n. Backs code n ys) e k))
 
   -- an instruction that goes nowhere, and one that goes further on
-  here : (at line : ℕ) (i : Instr) → target_of i ≡ None → Backs code at (placed line i ∷ [])
+  here : (at line : ℕ) (i : Instr) → target_of i ≡ None → Backs code at (on_line line i ∷ [])
   here at line i e = ((λ a t le. absurd (cc)), tt)
 
   nowhere : (i : Instr) (at : ℕ) → target_of i ≡ None → (a : ℕ) → target_of i ≡ Some a → a ≤ at
@@ -61,7 +61,7 @@ module _ (code : List Placed) where
             (sym (goes (at + length left + 1 + length right + 1)) ∙ t) le),
           joins (at + length left + 1) right _ k (here _ line instr.Test refl))
 
-  module _ (s : Source) (vars : List Name) where
+  module _ (s : PlainScript) (vars : List Name) where
     call_backs : (w : Called) (line at : ℕ) (es : PlainArgs) (args_meaning : List Placed) → Backs code at args_meaning
         → Backs code at (call_code s vars w line es args_meaning)
     call_backs (Built name) line at es args_meaning h = joins at args_meaning _ h (here _ line (instr.Built name (args_count es)) refl)
@@ -108,11 +108,11 @@ module _ (code : List Placed) where
           let m = at + length (expr_code s vars e line at) in
           joins at (expr_code s vars e line at) _ (expr_backs e line at) (args_backs es line m)
 
-    tick_first : (at line : ℕ) (is : List Placed) → Backs code (at + 1) is → Backs code at (placed line instr.Tick ∷ is)
+    tick_first : (at line : ℕ) (is : List Placed) → Backs code (at + 1) is → Backs code at (on_line line instr.Tick ∷ is)
     tick_first at line is h = (nowhere instr.Tick at refl, h)
 
     single : (e : PlainExpr) (line at : ℕ) (i : Instr) → target_of i ≡ None
-        → Backs code at (placed line instr.Tick ∷ (expr_code s vars e line (at + 1) ++ placed line i ∷ []))
+        → Backs code at (on_line line instr.Tick ∷ (expr_code s vars e line (at + 1) ++ on_line line i ∷ []))
     single e line at i t = tick_first at line _
         (joins (at + 1) (expr_code s vars e line (at + 1)) _ (expr_backs e line (at + 1)) (here _ line i t))
 
@@ -123,16 +123,16 @@ module _ (code : List Placed) where
         (ahead past (past + 1 + length cy + 1) (omega arith),
           joins (past + 1) cy _ h (ahead (past + 1 + length cy) (past + 1 + length cy + 1 + length co) (omega arith), k))
 
-    round_backs : (line top past : ℕ) (ck : List Placed) → slice_get code top ≡ Some (placed line instr.Tick) → Backs code (past + 1) ck
+    round_backs : (line top past : ℕ) (ck : List Placed) → slice_get code top ≡ Some (on_line line instr.Tick) → Backs code (past + 1) ck
         → Backs code past (round_code line top past ck)
     round_backs line top past ck at_top h =
         (ahead past (past + 1 + length ck + 1) (omega arith),
           joins (past + 1) ck _ h ((λ a t le. let same : top ≡ a =
               cc in subst (λ n. instr_of (slice_get code n) ≡ Some instr.Tick) same (ap instr_of at_top)), tt))
 
-    if_backs : (none : Bool) (line past b : ℕ) (cy co : List Placed) → Stands code past (branches_code none line past cy co) b
-        → ((y : ℕ) → Stands code (past + 1) cy y → Backs code (past + 1) cy)
-        → ((y : ℕ) → Stands code (past + 1 + length cy + 1) co y → Backs code (past + 1 + length cy + 1) co)
+    if_backs : (none : Bool) (line past b : ℕ) (cy co : List Placed) → StandsAt code past (branches_code none line past cy co) b
+        → ((y : ℕ) → StandsAt code (past + 1) cy y → Backs code (past + 1) cy)
+        → ((y : ℕ) → StandsAt code (past + 1 + length cy + 1) co y → Backs code (past + 1 + length cy + 1) co)
         → Backs code past (branches_code none line past cy co)
     if_backs true line past b cy co h run_first run_other = (ahead past (past + 1 + length cy) (omega arith), run_first b h.1)
     if_backs false line past b cy co h run_first run_other =
@@ -140,7 +140,7 @@ module _ (code : List Placed) where
             (run_other b (stands_back code (past + 1) b cy _ h.1).1)
 
     mutual
-      stmt_backs : (st : PlainStmt) (at b : ℕ) → Stands code at (stmt_code s vars st at) b → Backs code at (stmt_code s vars st at)
+      stmt_backs : (st : PlainStmt) (at b : ℕ) → StandsAt code at (stmt_code s vars st at) b → Backs code at (stmt_code s vars st at)
       stmt_backs (plain.Assign line x e) at b h = single e line at (instr.Set (var_number vars x)) refl
       stmt_backs (plain.Store line t k e) at b h =
           let m = at + 1 + length (expr_code s vars t line (at + 1)) in
@@ -149,9 +149,9 @@ module _ (code : List Placed) where
             (joins m (expr_code s vars k line m) _ (expr_backs k line m)
                 (joins n (expr_code s vars e line n) _ (expr_backs e line n) (here _ line instr.Write refl))))
       stmt_backs (plain.Drop line x) at b h =
-          tick_first at line (placed line (instr.Drop (var_number vars x)) ∷ []) (here (at + 1) line (instr.Drop (var_number vars x)) refl)
+          tick_first at line (on_line line (instr.Drop (var_number vars x)) ∷ []) (here (at + 1) line (instr.Drop (var_number vars x)) refl)
       stmt_backs (plain.Return line None) at b h =
-          tick_first at line (placed line instr.None ∷ placed line instr.Return ∷ [])
+          tick_first at line (on_line line instr.None ∷ on_line line instr.Return ∷ [])
           (nowhere instr.None (at + 1) refl, here _ line instr.Return refl)
       stmt_backs (plain.Return line (Some e)) at b h = single e line at instr.Return refl
       stmt_backs (plain.Pass line) at b h = here at line instr.Tick refl
@@ -170,7 +170,7 @@ module _ (code : List Placed) where
           let past = at + 1 + 1 + length ce in
           let ck = block_code s vars k (past + 1) in
           let behind = stands_back code (at + 1 + 1) b ce _ h.1.1 in
-          tick_first at line (placed line instr.Tick ∷ (ce ++ round_code line (at + 1) past ck))
+          tick_first at line (on_line line instr.Tick ∷ (ce ++ round_code line (at + 1) past ck))
               (tick_first (at + 1) line (ce ++ round_code line (at + 1) past ck)
               (joins (at + 1 + 1) ce (round_code line (at + 1) past ck) (expr_backs e line (at + 1 + 1))
             (round_backs line (at + 1) past ck h.1.0
@@ -178,16 +178,16 @@ module _ (code : List Placed) where
       stmt_backs (plain.When line cowns captures k) at b h =
           let i = instr.When (when_number s.tree line) (map (var_number vars) (cown_names cowns))
               (map (var_number vars) (capture_names cowns captures)) in
-          tick_first at line (placed line i ∷ []) (here (at + 1) line i refl)
+          tick_first at line (on_line line i ∷ []) (here (at + 1) line i refl)
 
-      block_backs : (k : PlainBlock) (at b : ℕ) → Stands code at (block_code s vars k at) b → Backs code at (block_code s vars k at)
+      block_backs : (k : PlainBlock) (at b : ℕ) → StandsAt code at (block_code s vars k at) b → Backs code at (block_code s vars k at)
       block_backs no_stmts at b h = tt
       block_backs (stmt st k) at b h =
           let ca = stmt_code s vars st at in
           joins at ca _ (stmt_backs st at (at + length ca) (stands_front code at b ca _ h))
               (block_backs k (at + length ca) b (stands_back code at b ca _ h))
 
-body_backs : (s : Source) (body : ℕ) → IsTicked (code_at (program_of s) body)
+body_backs : (s : PlainScript) (body : ℕ) → IsTicked (code_at (program_of s) body)
 body_backs s body at a i get t le =
     let code = code_at (program_of s) body in
     let list = body_code s (body_vars s body) (body_block s body) in
@@ -198,5 +198,5 @@ body_backs s body at a i get t le =
     let at_list : slice_get list at ≡ Some i = subst (λ c. slice_get c at ≡ Some i) (code_is s body) get in
     found code 0 at list i a whole at_list t (omega (arith, le))
 
-pub is_ticked : (s : Source) → Ticked (program_of s)
+pub is_ticked : (s : PlainScript) → Ticked (program_of s)
 is_ticked s body = body_backs s body
