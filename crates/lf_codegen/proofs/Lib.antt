@@ -4,3 +4,5 @@ pub mod NameTables
 pub mod FrameOrder
 pub mod FirstRefusal
 pub mod Answering
+pub mod CodeShape
+pub mod Following

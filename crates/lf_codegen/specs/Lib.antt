@@ -4,6 +4,10 @@ pub mod Callees
 pub mod NameRefusals
 pub mod ScriptReading
 pub mod Exactly
+pub mod Numbers
+pub mod GeneratedCode
+pub mod Meaning
+pub mod RunOne
 pub mod Parts
 pub mod Earliest
 pub mod NameSets

@@ -14,7 +14,7 @@ use Rattle.lf_codegen.specs.declared.callee.BuiltIn as code
 use Rattle.lf_codegen.specs.Callees.{BuiltIn, params_of}
 
 abbrev pub built_in_row : code.BuiltIn → BuiltIn
-built_in_row row = record { name = row.name.now; callee = row.callee }
+built_in_row row = record { name = row.name.now; callee = row.callee; called = row.called }
 
 -- the table has the first function of each name
 pub record Knows (callees : Callees) (texts : List Text) (functions : List PlainFunction) : Type 0 where

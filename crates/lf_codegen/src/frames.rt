@@ -21,13 +21,13 @@ fn extend(names: &mut Names, more: &[Name]) -> Result<(), OutOfMemory>
     Ok(())
 }
 
-// The names of two lists, one after the other.
-fn joined(alloc: Global, first: &Names, second: &Names) -> Result<Names, OutOfMemory>
+/// The names of two lists, one after the other.
+pub fn joined(alloc: Global, first: &[Name], second: &[Name]) -> Result<Names, OutOfMemory>
     ensures { IfOk result (λ names. names ≡ first.now ++ second.now) }
 {
     let mut names = Names::new(alloc);
-    extend(&mut names, first.as_slice())?;
-    extend(&mut names, second.as_slice())?;
+    extend(&mut names, first)?;
+    extend(&mut names, second)?;
     Ok(names)
 }
 
@@ -47,7 +47,7 @@ fn of_stmt<'t>(alloc: Global, out: &mut Vec<Frame<'t>>, stmt: &'t Stmt) -> Resul
             captures,
             body,
         } => {
-            let own = joined(alloc, cowns, captures)?;
+            let own = joined(alloc, cowns.as_slice(), captures.as_slice())?;
             out.push(Frame {
                 line: *line,
                 own,
@@ -87,8 +87,8 @@ fn of_functions<'t>(
     Ok(())
 }
 
-// The bodies of all `when`s, by rising line.
-fn when_frames_of<'t>(alloc: Global, tree: &'t Tree) -> Result<Vec<Frame<'t>>, OutOfMemory>
+/// The bodies of all `when`s, by rising line.
+pub fn when_frames_of<'t>(alloc: Global, tree: &'t Tree) -> Result<Vec<Frame<'t>>, OutOfMemory>
     ensures { IfOk result (λ all. plain_frames all.items ≡ when_frames (plain_tree tree.now)) }
 {
     let mut whens = Vec::new(alloc);

@@ -7,8 +7,10 @@
 //! promises that each script has one such answer.
 #![tactic(auto)]
 
+mod called;
 mod callee;
 mod callees;
+pub mod code_laws;
 mod first_refusal;
 mod frame;
 mod frames;
@@ -22,6 +24,10 @@ mod resolving;
 mod script;
 mod variables;
 
+pub use called::Called;
+pub use frame::Frame;
+pub use frames::{joined, when_frames_of};
 pub use resolved::Resolved;
 pub use resolving::resolve;
 pub use script::{Script, read};
+pub use variables::{body_names, distinct};

@@ -1,13 +1,16 @@
 ghost use Rattle.std.specs.Prelude.{◌≡◌, ◌++◌, [], List, IfOk, OnOk, flat_map, fold};
 ghost use Rattle.lf_parser.specs.declared.name.Name.{Name as AName};
-ghost use Rattle.lf_codegen.specs.Frames.{distinct, variable_of, with_new_name};
+ghost use Rattle.lf_parser.specs.Plain.{plain_block};
+ghost use Rattle.lf_codegen.specs.Frames.{distinct as distinct_spec, variable_of, with_new_name};
+ghost use Rattle.lf_codegen.specs.Mentions.{block_mentions};
 ghost use Rattle.lf_codegen.specs.TablesMean.{AreOnce};
 
 use crate::lists::push;
 use crate::mention::Mention;
+use crate::mentions::mentions;
 use crate::name_set::NameSet;
 use lf_base::OutOfMemory;
-use lf_parser::{Name, Names};
+use lf_parser::{Block, Name, Names};
 use std::alloc::Global;
 
 /// Names, each once, in the order in which they come.
@@ -71,10 +74,27 @@ impl DistinctNames {
 /// The variables of a frame, in the order of their numbers: its own names, then the
 /// others as they are first mentioned.
 pub fn variables(alloc: Global, own: &[Name], mentions: &[Mention]) -> Result<Names, OutOfMemory>
-    ensures { IfOk result (λ names. names ≡ distinct (own.now ++ flat_map variable_of mentions.now)) }
+    ensures { IfOk result (λ names. names ≡ distinct_spec (own.now ++ flat_map variable_of mentions.now)) }
 {
     let mut variables = DistinctNames::new(alloc);
     variables.add_all(own)?;
     variables.add_mentioned(mentions)?;
     Ok(variables.names)
+}
+
+/// Names, each once, where it stands first.
+pub fn distinct(alloc: Global, names: &[Name]) -> Result<Names, OutOfMemory>
+    ensures { IfOk result (λ once. once ≡ distinct_spec names.now) }
+{
+    let mut all = DistinctNames::new(alloc);
+    all.add_all(names)?;
+    Ok(all.names)
+}
+
+/// The variables of a body with these names of its own, in the order of their numbers.
+pub fn body_names(alloc: Global, own: &[Name], body: &Block) -> Result<Names, OutOfMemory>
+    ensures { IfOk result (λ names. names ≡ distinct_spec (own.now ++ flat_map variable_of (block_mentions (plain_block body.now)))) }
+{
+    let all = mentions(alloc, body)?;
+    variables(alloc, own, all.as_slice())
 }

@@ -20,5 +20,5 @@ pub use mem_sink::MemSink;
 pub use mem_source::MemSource;
 pub use read_source::ReadSource;
 pub use streams::{Failed, Sink, Source};
-pub use transfer::{ReadStop, read_all, write_all};
+pub use transfer::{ReadStop, read_all, write_all, write_parts};
 pub use write_sink::WriteSink;

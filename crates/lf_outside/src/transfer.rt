@@ -1,7 +1,8 @@
-ghost use Rattle.std.specs.Prelude.{◌≡◌, ◌≤◌, ◌<◌, ◌+◌, ◌++◌, ◌-◌, ◌^◌, ℕ, List, length, take, drop, vec_len, IfOk, IsErrOf, OnErr, OnOk};
+ghost use Rattle.std.specs.Prelude.{flat_map, ◌≡◌, ◌≤◌, ◌<◌, ◌+◌, ◌++◌, ◌-◌, ◌^◌, ℕ, List, length, take, drop, vec_len, IfOk, IsErrOf, OnErr, OnOk};
 ghost use Rattle.std.specs.Io.KnownBytes.{Appends, Consumes, IsAtEnd, Keeps};
 ghost use Rattle.lf_outside.specs.Causes.{HasCause, Rose};
-ghost use Rattle.lf_outside.specs.Transfer.{ConsumesUpTo, ConsumesSome, AppendsPrefix};
+ghost use Rattle.lf_outside.specs.Streams.{stream_of};
+ghost use Rattle.lf_outside.specs.Transfer.{Writes, ConsumesUpTo, ConsumesSome, AppendsPrefix};
 
 use crate::streams::{Failed, Sink, Source};
 use std::alloc::{AllocError, Global};
@@ -105,6 +106,18 @@ pub fn write_all<K: Sink>(sink: &mut K, bytes: &[u8]) -> Result<(), Failed>
             Ok(count) => at += count,
             Err(failed) => return Err(failed),
         }
+    }
+    Ok(())
+}
+
+/// Writes parts to a sink, one after another. `Failed` comes only where the sink's faults
+/// rose, and the sink then took a prefix of the bytes of all parts.
+pub fn write_parts<K: Sink>(sink: &mut K, parts: &[&[u8]]) -> Result<(), Failed>
+    ensures { Writes (flat_map (λ part. part.now) parts.now) (stream_of K.held K.faults sink.old)
+        (stream_of K.held K.faults sink.new) result }
+{
+    for part in parts {
+        write_all(sink, part)?;
     }
     Ok(())
 }

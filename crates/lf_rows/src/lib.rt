@@ -13,6 +13,8 @@ mod accounts;
 #[cfg(test)]
 mod check_rows;
 #[cfg(test)]
+mod code_rows;
+#[cfg(test)]
 mod deepest_script;
 #[cfg(test)]
 mod first_form_rows;

@@ -1,0 +1,4 @@
+pub mod Ending
+pub mod DroppingOnce
+pub mod Checks
+pub mod Numbered

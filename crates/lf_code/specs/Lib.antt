@@ -1,0 +1,17 @@
+pub mod Progress
+pub mod Operators
+pub mod Spelling
+pub mod Actions
+pub mod Asks
+pub mod Prints
+pub mod Spawning
+pub mod CodeStep
+pub mod RunCode
+pub mod Ticked
+pub mod DroppingOnce
+pub mod Operations
+pub mod ValidCode
+pub mod OperandWalk
+pub mod VarSets
+pub mod Checking
+pub mod Listing

@@ -1,0 +1,25 @@
+//! What holds of the meaning of scripts and of their code.
+
+ghost use Rattle.lf_codegen.specs.RunOne.{CodeMeansTree};
+ghost use Rattle.std.specs.Prelude.{List};
+ghost use Rattle.lf_parser.specs.declared.name.Name.{Name};
+ghost use Rattle.lf_parser.specs.Plain.{PlainBlock};
+ghost use Rattle.lf_codegen.specs.GeneratedCode.{body_code, program_of};
+ghost use Rattle.lf_code.specs.Operations.{HasOperands};
+ghost use Rattle.lf_codegen.specs.Numbers.{PlainScript};
+ghost use Rattle.lf_code.specs.Ticked.{Ticked};
+
+/// The code of each script does what the script's tree means, whatever the task and the ticks.
+pub fn code_means_tree()
+    ensures { CodeMeansTree }
+{}
+
+/// The code of each script takes a tick wherever it goes back.
+pub fn code_is_ticked()
+    ensures { (s : PlainScript) → Ticked (program_of s) }
+{}
+
+/// Each address of a body that is reached has one number of operands, and enough of them.
+pub fn code_has_operands()
+    ensures { (s : PlainScript) (vars : List Name) (k : PlainBlock) → HasOperands (body_code s vars k) }
+{}

@@ -1,0 +1,5 @@
+pub mod ObjectRowsComputed
+pub mod FaultRowsComputed
+pub mod ControlRowsComputed
+pub mod WhenRowsComputed
+pub mod LimitRowsComputed
