@@ -1,4 +1,4 @@
--- What dropping makes of rows, fields and regions.
+-- What dropping makes of rows, fields and regions: a row and its fields, what is left, and a region and its rows.
 pub mod FieldsDropped
 pub mod EmptiedRow
 pub mod LeftParts

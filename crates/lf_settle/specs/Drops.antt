@@ -31,12 +31,14 @@ abbrev pub left_to_do : WorkList → List Row → ℕ
 left_to_do work rows = length work.suspects + size rows
 
 -- a row of that owner may lose its fields
-pub record CanEmpty (rows : List CountedRow) (regions : List Region) (work : WorkList) (s : State) (o : ObjId) (owner : Owner) : Type 0 where
+pub record CanEmpty (rows : List CountedRow) (regions : List Region) (work : WorkList) (s : State) (o : ObjId)
+    (owner : Owner) : Type 0 where
   pub can : CanDrop rows regions work s
   pub here : owner_in s.rows o ≡ Some owner
 
 -- a row may be dropped by itself
-pub record CanDropRow (rows : List CountedRow) (regions : List Region) (work : WorkList) (s : State) (o : ObjId) (owner : Owner) : Type 0 where
+pub record CanDropRow (rows : List CountedRow) (regions : List Region) (work : WorkList) (s : State) (o : ObjId)
+    (owner : Owner) : Type 0 where
   pub can : CanDrop rows regions work s
   pub goes : GoesAlone s o owner
 

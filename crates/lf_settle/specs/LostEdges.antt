@@ -1,5 +1,6 @@
 -- The edges of one place are lost: what holds before they are taken out of the counts, and what is noticed.
-use Rattle.std.specs.Prelude.{Bool, List, None, Option, Some, [], eqb, false, not, true, ◌&&◌, ◌++◌, ◌∷◌, ◌≡◌, ◌≤◌, ◌⊎◌}
+use Rattle.std.specs.Prelude.{Bool, List, None, Option, Some, [], eqb, false}
+use Rattle.std.specs.Prelude.{not, true, ◌&&◌, ◌++◌, ◌∷◌, ◌≡◌, ◌≤◌, ◌⊎◌}
 use Rattle.lf_base.specs.declared.ids.ObjId.{ObjId}
 use Rattle.lf_base.specs.declared.values.Owner.{Owner}
 use Rattle.lf_base.specs.declared.values.Owner.TheVariants.{Frozen, In, Local}

@@ -28,7 +28,8 @@ pub record CanSettle (rows : List CountedRow) (regions : List Region) (work : Wo
   pub watched : Watched s work.suspects
 
 -- a state of which all rows stay, without suspects, whose slot at a place holds this
-pub record MayUnset (rows : List CountedRow) (regions : List Region) (work : WorkList) (s : State) (n : ℕ) (v : Option Value) : Type 0 where
+pub record MayUnset (rows : List CountedRow) (regions : List Region) (work : WorkList) (s : State) (n : ℕ)
+    (v : Option Value) : Type 0 where
   pub can_drop : CanDrop rows regions work s
   pub all_stay : kept_rows s ≡ s.rows
   pub there : n < length s.slots

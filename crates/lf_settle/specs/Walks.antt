@@ -16,7 +16,8 @@ use Rattle.lf_settle.specs.SettledStates.{CanDrop, IsCounted}
 use Rattle.lf_settle.specs.WorkLists.{WorkList}
 
 -- some fields of a row are out, and else the rows are as they were
-pub record Emptying (s : State) (o : ObjId) (rows : List CountedRow) (regions : List Region) (old new : WorkList) (before after : ℕ) : Type 0 where
+pub record Emptying (s : State) (o : ObjId) (rows : List CountedRow) (regions : List Region) (old new : WorkList)
+    (before after : ℕ) : Type 0 where
   pub counted : IsCounted rows regions (stored s rows)
   pub same : emptied (stored s rows) (same_name o) ≡ emptied s (same_name o)
   pub loses : Loses s (stored s rows) old.suspects new.suspects
@@ -48,7 +49,8 @@ pub record Sweeping (s : State) (r : ObjId) (next : Option ObjId) (rows : List C
   pub less : left_to_do new (stored s rows).rows ≤ left_to_do old s.rows
   pub cost : owed after new (stored s rows).rows ≤ owed before old s.rows + 2 * length done + 1
 
--- between two suspects: the rows that stay are those that stayed at first, and what the steps and the suspects still cost is paid by what is dropped
+-- between two suspects: the rows that stay are those that stayed at first, and what the steps and the suspects still cost
+-- is paid by what is dropped
 pub record Going (s : State) (rows : List CountedRow) (regions : List Region) (old new : WorkList) (before after : ℕ) : Type 0 where
   pub can : CanDrop rows regions new (stored s rows)
   pub watched : Watched (stored s rows) new.suspects

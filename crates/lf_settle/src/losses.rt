@@ -37,8 +37,8 @@ pub fn lose_borrow<S: Store, L: Ledger>(
     v: Option<Value>,
     steps: &mut Steps<L>,
 )
-    requires may { (s : State) × ((t : State) × ((from : Source) × (CanLose (S.rows store.old) regions.old work.old s t from (slot_targets v)
-        × (is_borrower s.rows from ≡ true)))) }
+    requires may { (s : State) × ((t : State) × ((from : Source)
+        × (CanLose (S.rows store.old) regions.old work.old s t from (slot_targets v) × (is_borrower s.rows from ≡ true)))) }
     ensures counted { (s t : State) (from : Source) → CanLose (S.rows store.old) regions.old work.old s t from (slot_targets v)
         → is_borrower s.rows from ≡ true → CountsOf (S.rows store.new) regions.new t }
     ensures noticed { (s t : State) (from : Source) → CanLose (S.rows store.old) regions.old work.old s t from (slot_targets v)
@@ -63,8 +63,8 @@ pub fn lose_inner<S: Store, L: Ledger>(
     home: ObjId,
     steps: &mut Steps<L>,
 )
-    requires may { (s : State) × ((t : State) × ((p : Name) × (CanLose (S.rows store.old) regions.old work.old s t (Field p) (slot_targets v)
-        × (owner_in s.rows p ≡ Some (In home))))) }
+    requires may { (s : State) × ((t : State) × ((p : Name)
+        × (CanLose (S.rows store.old) regions.old work.old s t (Field p) (slot_targets v) × (owner_in s.rows p ≡ Some (In home))))) }
     ensures counted { (s t : State) (p : Name) → CanLose (S.rows store.old) regions.old work.old s t (Field p) (slot_targets v)
         → owner_in s.rows p ≡ Some (In home) → CountsOf (S.rows store.new) regions.new t }
     ensures noticed { (s t : State) (p : Name) → CanLose (S.rows store.old) regions.old work.old s t (Field p) (slot_targets v)

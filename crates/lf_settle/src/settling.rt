@@ -56,7 +56,8 @@ pub fn settle<S: Store, L: Ledger>(
     steps: &mut Steps<L>,
 )
     requires state { (s : State) × CanSettle (S.rows store.old) regions.old work.old s }
-    ensures kept { (s : State) → CanSettle (S.rows store.old) regions.old work.old s → CountsOf (S.rows store.new) regions.new (kept s) }
+    ensures kept { (s : State) → CanSettle (S.rows store.old) regions.old work.old s
+        → CountsOf (S.rows store.new) regions.new (kept s) }
     ensures none_left { work.new.suspects ≡ [] }
     ensures room { work.new.spare ≡ work.old.spare + length work.old.suspects }
     ensures steps { (s : State) → CanSettle (S.rows store.old) regions.old work.old s
