@@ -6,7 +6,8 @@ ghost use Rattle.lf_code.specs.CodeStep.{on_line};
 ghost use Rattle.lf_codegen.specs.GeneratedCode.{expr_code};
 ghost use Rattle.lf_codegen.specs.Mentions.{args_count};
 ghost use Rattle.lf_code.specs.declared.instr.Instr.TheVariants as instr;
-ghost use Rattle.lf_emit.specs.Left.{all_left, args_left, at_once, jump_of, later, left_from_work, own_call, own_instrs, parts_of, parts_of_call};
+ghost use Rattle.lf_emit.specs.Left.{all_left, args_left, at_once, jump_of, later};
+ghost use Rattle.lf_emit.specs.Left.{left_from_work, own_call, own_instrs, parts_of, parts_of_call};
 ghost use Rattle.lf_emit.specs.Left as left;
 
 use crate::numbering::Numbering;
@@ -218,7 +219,8 @@ fn emit_next<'t, N: Numbering>(
     work: Work<'t>,
     line: u32,
 ) -> Result<(), OutOfMemory>
-    ensures own { OnOk result (out.new.items ≡ at_once (N.source names.now) (N.vars names.now) line (left_from_work work.entry) out.old.items) }
+    ensures own { OnOk result (out.new.items
+        ≡ at_once (N.source names.now) (N.vars names.now) line (left_from_work work.entry) out.old.items) }
     ensures parts { OnOk result (all_left works.new.items ≡ all_left works.old.items
         ++ later (N.source names.now) (N.vars names.now) line (left_from_work work.entry) (length out.old.items)) }
 {
