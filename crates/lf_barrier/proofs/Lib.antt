@@ -1,0 +1,5 @@
+pub mod FieldLoops
+pub mod GivenRow
+pub mod RowLoops
+pub mod InsideWrite
+pub mod RoomHere

@@ -1,0 +1,2 @@
+pub mod MovingEdges
+pub mod WritePlans
