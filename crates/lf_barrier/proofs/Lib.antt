@@ -3,3 +3,4 @@ pub mod GivenRow
 pub mod RowLoops
 pub mod InsideWrite
 pub mod RoomHere
+pub mod ContentCalls

@@ -1,2 +1,3 @@
 pub mod MovingEdges
 pub mod WritePlans
+pub mod ContentWrites

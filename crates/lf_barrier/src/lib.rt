@@ -2,8 +2,10 @@
 #![tactic(auto)]
 
 mod applying;
+mod contents;
 mod moves;
 mod plan;
 
 pub use applying::apply_write;
+pub use contents::{apply_content, check_content};
 pub use plan::WritePlan;
