@@ -49,10 +49,10 @@ pub record FieldWalk (all rest : List (Key × Value)) (last : Option Key) (turn 
   pub next : field_after all last ≡ head_or rest None
   pub count : length so_far ≡ turn
 
-pub walk_begins : (all : List (Key × Value)) → FieldWalk all all None 0
+abbrev pub walk_begins : (all : List (Key × Value)) → FieldWalk all all None 0
 walk_begins all = record { so_far = []; split = refl; next = refl; count = refl }
 
-pub walk_goes_on : (all tail : List (Key × Value)) (f : Key × Value) (last : Option Key) (turn : ℕ) → FieldKeysDiffer all → FieldWalk all (f ∷ tail) last turn → FieldWalk all tail (Some f.0) (turn + 1)
+abbrev pub walk_goes_on : (all tail : List (Key × Value)) (f : Key × Value) (last : Option Key) (turn : ℕ) → FieldKeysDiffer all → FieldWalk all (f ∷ tail) last turn → FieldWalk all tail (Some f.0) (turn + 1)
 walk_goes_on all tail f last turn d w = record {
   so_far = w.so_far ++ f ∷ [];
   split = w.split ∙ sym (append_assoc w.so_far (f ∷ []) tail);

@@ -108,7 +108,7 @@ none_sub : {X : Type 0} (xs : List X) → Sub [] xs
 none_sub [] = none
 none_sub (x ∷ xs) = pass (none_sub xs)
 
-keys_found : (rows : List Row) (o : ObjId) → ((x : Row) → Member x rows → Differ same_key (map (λ (f : Key × Value). f.0) x.fields)) → Differ same_key (map (λ (f : Key × Value). f.0) (fields_in rows o))
+pub keys_found : (rows : List Row) (o : ObjId) → ((x : Row) → Member x rows → Differ same_key (map (λ (f : Key × Value). f.0) x.fields)) → Differ same_key (map (λ (f : Key × Value). f.0) (fields_in rows o))
 keys_found [] o h = tt
 keys_found (r ∷ rs) o h =
     elim (same_name r.name o) as (λ b. Differ same_key (map (λ (f : Key × Value). f.0) (row_fields (cond b (Some r) (row_at rs o))))) [

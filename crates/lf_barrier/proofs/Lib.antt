@@ -4,3 +4,7 @@ pub mod RowLoops
 pub mod InsideWrite
 pub mod RoomHere
 pub mod ContentCalls
+pub mod SurveySteps
+pub mod SurveyRows
+pub mod OwnedRegions
+pub mod OwnedBelow

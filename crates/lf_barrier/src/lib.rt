@@ -3,8 +3,11 @@
 
 mod applying;
 mod contents;
+mod descent;
 mod moves;
+mod names;
 mod plan;
+mod survey;
 
 pub use applying::apply_write;
 pub use contents::{apply_content, check_content};
