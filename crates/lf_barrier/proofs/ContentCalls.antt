@@ -39,7 +39,7 @@ use Rattle.lf_regions.specs.declared.region.Region.{Region}
 use Rattle.lf_regions.specs.Regions.{has_region, owned_of}
 use Rattle.lf_regions.specs.TableCounts.{owns_region}
 
-some_left : (p : Edge → Bool) (es : List Edge) → ltb 0 (count_by p es) ≡ list_any p es
+pub some_left : (p : Edge → Bool) (es : List Edge) → ltb 0 (count_by p es) ≡ list_any p es
 some_left p es = same_by (ltb 0 (count_by p es)) (list_any p es) (λ e. any_some p es (ltb-true 0 (count_by p es) e)) (λ e. lt-ltb 0 (count_by p es) (some_any p es e))
 
 none_more : (n : ℕ) → n ≤ 1 → ltb 1 n ≡ false

@@ -96,7 +96,7 @@ length_sum : {X : Type 0} (xs : List X) → sum_by (λ _. 1) xs ≡ length xs
 length_sum [] = refl
 length_sum (x ∷ xs) = omega (arith, sum_by-cons (λ _. 1) x xs, length_sum xs)
 
-sum_on : (f g : ObjId → ℕ) (os : List ObjId) → ((o : ObjId) → has_name os o ≡ true → f o ≡ g o) → sum_by f os ≡ sum_by g os
+pub sum_on : (f g : ObjId → ℕ) (os : List ObjId) → ((o : ObjId) → has_name os o ≡ true → f o ≡ g o) → sum_by f os ≡ sum_by g os
 sum_on f g [] h = refl
 sum_on f g (o ∷ os) h = omega (arith, sum_by-cons f o os, sum_by-cons g o os, h o (head_there o os), sum_on f g os (λ q t. h q (tail_there o os q t)))
 

@@ -8,3 +8,5 @@ pub mod SurveySteps
 pub mod SurveyRows
 pub mod OwnedRegions
 pub mod OwnedBelow
+pub mod JudgedSurvey
+pub mod PlanRoom

@@ -96,7 +96,7 @@ module _ (rows : List CountedRow) (regions : List Region) (home : ObjId) (old : 
   other p = is_other_bridge home p (owner_at rows p)
 
   -- a bridge of another region was visited where it was touched
-  touched_is : (seen : List ObjId) (b : ObjId) → other b ≡ true → list_any (λ p. other p && same_name p b) seen ≡ list_any (λ p. same_name p b) seen
+  pub touched_is : (seen : List ObjId) (b : ObjId) → other b ≡ true → list_any (λ p. other p && same_name p b) seen ≡ list_any (λ p. same_name p b) seen
   touched_is [] b h = refl
   touched_is (p ∷ ps) b h = λ i. one p i || touched_is ps b h i where
     one : (p : ObjId) → (other p && same_name p b) ≡ same_name p b

@@ -1,3 +1,4 @@
+use indexmap::IndexSet;
 use lf_base::{Key, ObjId, Value};
 use std::marker::Model;
 
@@ -10,7 +11,7 @@ pub struct WritePlan {
     pub(crate) key: Key,
     pub(crate) value: Value,
     pub(crate) home: Option<ObjId>,
-    pub(crate) moved: Vec<ObjId>,
+    pub(crate) moved: IndexSet<ObjId>,
 }
 
 impl Model for WritePlan {
@@ -18,5 +19,5 @@ impl Model for WritePlan {
 
     ghost Value = { Planned };
 
-    ghost view = { λ plan. record { target = plan.target; key = plan.key; value = plan.value; home = plan.home; moved = plan.moved.items } };
+    ghost view = { λ plan. record { target = plan.target; key = plan.key; value = plan.value; home = plan.home; moved = (plan.moved).keys } };
 }
