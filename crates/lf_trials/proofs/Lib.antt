@@ -1,1 +1,2 @@
 pub mod TwoRegions
+pub mod BarrierStates

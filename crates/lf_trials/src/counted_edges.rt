@@ -19,11 +19,11 @@ use lf_regions::RegionTable;
 use std::alloc::Global;
 use std::sync::ledger::{Blank, Ledger};
 
-const HOME: ObjId = ObjId { birth: 1, seq: 1 };
+pub const HOME: ObjId = ObjId { birth: 1, seq: 1 };
 
 const CHILD: ObjId = ObjId { birth: 1, seq: 2 };
 
-const LOCAL: ObjId = ObjId { birth: 1, seq: 3 };
+pub const LOCAL: ObjId = ObjId { birth: 1, seq: 3 };
 
 // The edges to a bridge, the borrows of its region, and whether it is owned.
 fn told<S: Store, L: Ledger>(
@@ -58,8 +58,8 @@ fn add_region<S: Store, L: Ledger>(
     Ok(())
 }
 
-// Makes a local object of the next name.
-fn add_object<S: Store, L: Ledger>(
+/// Makes a local object of the next name.
+pub fn add_object<S: Store, L: Ledger>(
     store: &mut S,
     regions: &RegionTable,
     name: ObjId,
@@ -74,8 +74,8 @@ fn add_object<S: Store, L: Ledger>(
     Ok(())
 }
 
-// Two regions without edges.
-fn made_regions<S: Store, L: Ledger>(
+/// Two regions without edges.
+pub fn made_regions<S: Store, L: Ledger>(
     alloc: Global,
     steps: &mut Steps<L>,
 ) -> Result<(S, RegionTable), OutOfMemory>
