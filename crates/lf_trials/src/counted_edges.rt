@@ -23,7 +23,7 @@ pub(crate) const HOME: ObjId = ObjId { birth: 1, seq: 1 };
 
 pub(crate) const CHILD: ObjId = ObjId { birth: 1, seq: 2 };
 
-const LOCAL: ObjId = ObjId { birth: 1, seq: 3 };
+pub(crate) const LOCAL: ObjId = ObjId { birth: 1, seq: 3 };
 
 // The edges to a bridge, the borrows of its region, and whether it is owned.
 pub(crate) fn told<S: Store, L: Ledger>(

@@ -1,11 +1,14 @@
 //! What every store of rows has to pass, and the tests of the stores, of the table of
-//! regions, of the counts that both keep of edges, and of settling.
+//! regions, of the counts that both keep of edges, of settling, and of the write barrier.
 //!
-//! It stands on `lf_settle`, `lf_domain`, `lf_graph`, `lf_regions`, `lf_laws` and `lf_base`. `trials` has calls of any store
+//! It stands on `lf_barrier`, `lf_settle`, `lf_domain`, `lf_graph`, `lf_regions`, `lf_laws` and `lf_base`. `trials` has calls of any store
 //! that ask for nothing, and `cases` drives them by a table: `failed_case` names the first
 //! case that a store fails. A new store is added to `store_tests`, with one test.
 #![tactic(auto)]
 
+pub mod barrier_cases;
+#[cfg(test)]
+mod barrier_tests;
 mod calls;
 pub mod cases;
 mod contents;

@@ -76,11 +76,11 @@ given_twice o os w r = elim (same_name o r.name) as (λ b. given os w (cond (b |
   | false ↦ refl
 ]
 
-relabel_twice : (of : List Row) (o : ObjId) (os : List ObjId) (w : Owner) → relabel (relabel of (o ∷ []) w) os w ≡ relabel of (o ∷ os) w
+pub relabel_twice : (of : List Row) (o : ObjId) (os : List ObjId) (w : Owner) → relabel (relabel of (o ∷ []) w) os w ≡ relabel of (o ∷ os) w
 relabel_twice [] o os w = refl
 relabel_twice (r ∷ rs) o os w = λ i. given_twice o os w r i ∷ relabel_twice rs o os w i
 
-relabel_none : (of : List Row) (w : Owner) → of ≡ relabel of [] w
+pub relabel_none : (of : List Row) (w : Owner) → of ≡ relabel of [] w
 relabel_none [] w = refl
 relabel_none (r ∷ rs) w = ap (λ l. r ∷ l) (relabel_none rs w)
 

@@ -1,0 +1,12 @@
+pub mod FieldLoops
+pub mod GivenRow
+pub mod RowLoops
+pub mod InsideWrite
+pub mod RoomHere
+pub mod ContentCalls
+pub mod SurveySteps
+pub mod SurveyRows
+pub mod OwnedRegions
+pub mod OwnedBelow
+pub mod JudgedSurvey
+pub mod PlanRoom
