@@ -11,14 +11,14 @@ ghost use Rattle.lf_domain.specs.Counts.{Counts, CountsOf};
 ghost use Rattle.lf_trials.specs.SettledRows.{first, four_edges, local_cycle, object_in_slot, owner_and_child};
 ghost use Rattle.lf_trials.specs.TwoRegions.{two_regions};
 
-use crate::counted_edges::{add_object, made_regions, told, CHILD, HOME};
+use crate::counted_edges::{CHILD, HOME, add_object, made_regions, told};
 use lf_base::{Key, ObjId, OutOfMemory, Owner, Steps, Value};
 use lf_domain::callers::write_local;
 use lf_domain::{count_borrow, count_inner};
 use lf_graph::Store;
 use lf_regions::RegionTable;
-use lf_settle::callers::unset_slot;
 use lf_settle::Work;
+use lf_settle::callers::unset_slot;
 use std::alloc::Global;
 use std::sync::ledger::{Blank, Ledger};
 
@@ -47,11 +47,7 @@ fn put_field<S: Store, L: Ledger>(
 
 // Counts two slots that hold the regions, and two fields of the first bridge, which
 // lead to itself and to the second one.
-fn count_edges<S: Store, L: Ledger>(
-    store: &mut S,
-    regions: &mut RegionTable,
-    steps: &mut Steps<L>,
-)
+fn count_edges<S: Store, L: Ledger>(store: &mut S, regions: &mut RegionTable, steps: &mut Steps<L>)
     requires { CountsOf (S.rows store.old) regions.old two_regions }
     ensures { Counts (S.rows store.new) regions.new two_regions.rows four_edges }
 {
@@ -115,9 +111,23 @@ fn made_cycle<S: Store, L: Ledger>(
     let (mut store, mut regions) = made_objects::<S, L>(alloc, steps)?;
     let key = Key::Int(0);
     store.reserve(Owner::Local, 1)?;
-    write_local(&mut store, &mut regions, FIRST, key, Value::Obj(SECOND), steps);
+    write_local(
+        &mut store,
+        &mut regions,
+        FIRST,
+        key,
+        Value::Obj(SECOND),
+        steps,
+    );
     store.reserve(Owner::Local, 1)?;
-    write_local(&mut store, &mut regions, SECOND, key, Value::Obj(FIRST), steps);
+    write_local(
+        &mut store,
+        &mut regions,
+        SECOND,
+        key,
+        Value::Obj(FIRST),
+        steps,
+    );
     Ok((store, regions))
 }
 
