@@ -1,8 +1,7 @@
 -- A content by the counts: what it is refused for, and the edges that its write leaves.
-use Rattle.std.proofs.Common.{Bool, List, None, Option, Some, [], ap, arith, cond, false, inl, inr, length, ltb, not, refl, subst, sym, true, ℕ, ◌&&◌, ◌+◌, ◌++◌, ◌<◌, ◌^◌, ◌||◌, ◌∙◌, ◌∷◌, ◌≡◌, ◌≤◌, ◌⊎◌}
+use Rattle.std.proofs.Common.{Bool, List, None, Option, Some, [], ap, arith, cond, false, inl, inr, ltb, not, refl, subst, sym, true, ℕ, ◌&&◌, ◌+◌, ◌++◌, ◌||◌, ◌∙◌, ◌∷◌, ◌≡◌, ◌≤◌}
 use Rattle.std.proofs.lemmas.Bool.{lt-ltb, ltb-true}
 use Rattle.std.specs.List.{count_by, list_any}
-use Rattle.lf_base.specs.declared.faults.Fault.{Fault}
 use Rattle.lf_base.specs.declared.faults.Fault.TheVariants.{Interior, LocalInCown, SecondOwner}
 use Rattle.lf_base.specs.declared.ids.CownId.{CownId}
 use Rattle.lf_base.specs.declared.ids.ObjId.{ObjId}
@@ -17,11 +16,9 @@ use Rattle.lf_base.specs.Edges.{Content, Edge, edges_by}
 use Rattle.lf_base.specs.Names.{same_name, same_value, targets_of_value}
 use Rattle.lf_base.specs.NewCown.{made_result, next_cown}
 use Rattle.lf_base.specs.Owners.{has_row, is_bridge, is_in, or_frozen, owner_in, owner_of}
-use Rattle.lf_base.specs.Ownership.{is_owning, owning_edges}
+use Rattle.lf_base.specs.Ownership.{owning_edges}
 use Rattle.lf_base.specs.PlainState.{State}
-use Rattle.lf_base.specs.Sets.{Member}
 use Rattle.lf_base.specs.WalkCounts.{counted}
-use Rattle.lf_base.specs.WellFormed.{WellFormed}
 use Rattle.lf_base.proofs.NameLemmas.SameNames.{same_name_is, same_name_itself}
 use Rattle.lf_barrier.specs.ContentWrites.{IsContentWrite}
 use Rattle.lf_barrier.proofs.FieldLoops.{length_counts}

@@ -1,5 +1,5 @@
 -- A row's fields gone over one by one: their edges are taken out of the counts, or counted.
-use Rattle.std.proofs.Common.{List, None, Option, Some, [], ap, arith, length, map, refl, subst, sym, true, ℕ, ◌+◌, ◌++◌, ◌<◌, ◌^◌, ◌∙◌, ◌∷◌, ◌≡◌, ◌≤◌}
+use Rattle.std.proofs.Common.{List, None, Option, Some, [], ap, arith, length, refl, subst, sym, true, ℕ, ◌+◌, ◌++◌, ◌<◌, ◌^◌, ◌∙◌, ◌∷◌, ◌≡◌, ◌≤◌}
 use Rattle.std.proofs.lemmas.List.{append-nil, append_assoc, length-append}
 use Rattle.std.specs.List.{count_by}
 use Rattle.std.specs.Option.{option_map}

@@ -3,7 +3,7 @@ use Rattle.std.proofs.Common.{Bool, List, None, Option, Some, [], ap, arith, con
 use Rattle.std.proofs.lemmas.Bool.{false_from_ne_true}
 use Rattle.std.proofs.Math.Bool.{or-false}
 use Rattle.std.proofs.lemmas.List.Sums.{count_by-le-length}
-use Rattle.std.specs.List.{count_by, list_any}
+use Rattle.std.specs.List.{count_by}
 use Rattle.std.specs.Option.{is_some, option_map}
 use Rattle.lf_base.specs.declared.ids.ObjId.{ObjId}
 use Rattle.lf_base.specs.declared.values.Owner.{Owner}
@@ -12,13 +12,12 @@ use Rattle.lf_base.specs.EdgeLists.{begins_at}
 use Rattle.lf_base.specs.Edges.{Content, Edge, Field, Slot, Source}
 use Rattle.lf_base.specs.Names.{same_name}
 use Rattle.lf_base.specs.Owners.{has_name, is_bridge, is_in, owner_in}
-use Rattle.lf_base.specs.Ownership.{is_owning}
 use Rattle.lf_base.specs.PlainState.{Row}
 use Rattle.lf_base.specs.Sets.{Member}
 use Rattle.lf_base.specs.WalkCounts.{borrows, is_borrower}
 use Rattle.lf_base.specs.WriteResult.{relabel}
 use Rattle.lf_base.proofs.ListLemmas.Tests.{count_like, none_count}
-use Rattle.lf_base.proofs.NameLemmas.SameNames.{other_way, same_name_flips, same_name_is, same_name_itself}
+use Rattle.lf_base.proofs.NameLemmas.SameNames.{same_name_flips, same_name_is, same_name_itself}
 use Rattle.lf_barrier.specs.MovingEdges.{MayGive}
 use Rattle.lf_barrier.proofs.FieldLoops.{row_there}
 use Rattle.lf_domain.specs.Counts.{Counts}
@@ -34,7 +33,7 @@ use Rattle.lf_laws.proofs.Rows.OwnerTests.{in_not_local}
 use Rattle.lf_laws.proofs.Writes.Relabelling.{owner_over, owner_relabel}
 use Rattle.lf_regions.specs.declared.region.Region.{Region}
 use Rattle.lf_regions.specs.RegionChanges.{with_borrowed}
-use Rattle.lf_regions.specs.Regions.{borrowed_of, has_region, owned_of}
+use Rattle.lf_regions.specs.Regions.{borrowed_of, has_region}
 use Rattle.lf_regions.specs.TableCounts.{owns_region}
 
 moved_refs : (b : Bool) (w : Owner) (t u : Option CountedRow) → u ≡ cond b (option_map (with_owner w) t) t → is_some u ≡ true → (is_some t ≡ true) × (refs_by u ≡ refs_by t)

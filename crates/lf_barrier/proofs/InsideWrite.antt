@@ -6,14 +6,13 @@ use Rattle.std.specs.List.{count_by, sum_by}
 use Rattle.std.specs.Option.{option_map}
 use Rattle.lf_base.specs.declared.ids.ObjId.{ObjId}
 use Rattle.lf_base.specs.declared.values.Key.{Key}
-use Rattle.lf_base.specs.declared.values.Owner.{Owner}
 use Rattle.lf_base.specs.declared.values.Owner.TheVariants.{In, Local}
 use Rattle.lf_base.specs.declared.values.Value.{Value}
 use Rattle.lf_base.specs.EdgeLists.{SameEdges, begins_at, near_edges}
-use Rattle.lf_base.specs.Edges.{Content, Edge, Field, Slot, Source, edges, edges_by, field_targets, row_edges, rows_edges, slot_targets}
+use Rattle.lf_base.specs.Edges.{Content, Edge, Field, Slot, Source, edges_by, field_targets, row_edges, rows_edges, slot_targets}
 use Rattle.lf_base.specs.MoveSet.{move_set}
 use Rattle.lf_base.specs.Names.{same_key, same_name}
-use Rattle.lf_base.specs.Owners.{has_name, is_bridge, is_in, is_local_at, names, owner_in, row_at}
+use Rattle.lf_base.specs.Owners.{has_name, is_in, is_local_at, owner_in, row_at}
 use Rattle.lf_base.specs.Ownership.{is_in_other, is_owning}
 use Rattle.lf_base.specs.PlainState.{Row, State}
 use Rattle.lf_base.specs.Sets.{Differ, Member, grow}
@@ -25,12 +24,12 @@ use Rattle.lf_base.specs.WriteResult.{is_at, put_field, relabel, write_fields, w
 use Rattle.lf_base.proofs.ListLemmas.Filters.{Member_of_filter}
 use Rattle.lf_base.proofs.ListLemmas.Members.{Member_left, Member_right}
 use Rattle.lf_base.proofs.ListLemmas.Sublists.{Sub, none, pass, sub_filter}
-use Rattle.lf_base.proofs.NameLemmas.SameNames.{same_name_is, same_name_itself}
+use Rattle.lf_base.proofs.NameLemmas.SameNames.{same_name_is}
 use Rattle.lf_barrier.specs.MovingEdges.{MayCountRows, MayGiveRows, MayUncountRows, RowKeysDiffer, fields_in, targets_in}
-use Rattle.lf_barrier.specs.WritePlans.{plan_room, write_size}
-use Rattle.lf_barrier.proofs.FieldLoops.{fields_told, length_counts, same_lists}
+use Rattle.lf_barrier.specs.WritePlans.{write_size}
+use Rattle.lf_barrier.proofs.FieldLoops.{fields_told, length_counts}
 use Rattle.lf_barrier.proofs.RowLoops.{fields_given, found_in_map, head_there, tail_there}
-use Rattle.lf_domain.specs.Counts.{Counts, CountsOf, IsDomain}
+use Rattle.lf_domain.specs.Counts.{Counts, CountsOf}
 use Rattle.lf_domain.specs.OneEdge.{HasOneOwner, HaveBridges, MayCountOwner, MayUncountOwner, OnlyBridges}
 use Rattle.lf_domain.proofs.CountedEdges.{same_counts}
 use Rattle.lf_domain.proofs.EdgeTests.{count_cons}
@@ -38,7 +37,7 @@ use Rattle.lf_domain.proofs.FieldCounts.{refilled_counts}
 use Rattle.lf_domain.proofs.StateEdges.{one_owner, only_bridges, passes_on}
 use Rattle.lf_graph.specs.Room.{room_for_row}
 use Rattle.lf_graph.specs.RowChanges.{with_field_of}
-use Rattle.lf_graph.specs.StoredRows.{AreRowsOf, CountedRow, SameByOwner, fields_at}
+use Rattle.lf_graph.specs.StoredRows.{AreRowsOf, CountedRow, SameByOwner}
 use Rattle.lf_laws.proofs.Edges.EdgeParts.{count_app, counts_same, edges_parted}
 use Rattle.lf_laws.proofs.Edges.FieldEdges.{name_of_found, near_put, near_take}
 use Rattle.lf_laws.proofs.Edges.FrozenEdges.{borrowed_local}

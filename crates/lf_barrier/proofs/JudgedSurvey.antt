@@ -1,5 +1,5 @@
 -- What a survey of all that moves says of the write.
-use Rattle.std.proofs.Common.{Bool, List, None, Option, Some, [], ap, arith, cond, false, flat_map, inl, inr, ltb, not, refl, subst, sym, true, ℕ, ◌&&◌, ◌+◌, ◌++◌, ◌<◌, ◌||◌, ◌∙◌, ◌∷◌, ◌≡◌, ◌≤◌, ◌⊎◌}
+use Rattle.std.proofs.Common.{Bool, List, None, Option, Some, [], ap, arith, cond, false, flat_map, inl, inr, ltb, not, refl, subst, sym, true, ℕ, ◌&&◌, ◌+◌, ◌<◌, ◌∙◌, ◌∷◌, ◌≡◌, ◌≤◌, ◌⊎◌}
 use Rattle.std.proofs.lemmas.Bool.{false_from_ne_true, lt-ltb, ltb-true}
 use Rattle.std.specs.List.{count_by, list_any}
 use Rattle.std.specs.Option.{option_to_list}
@@ -14,7 +14,7 @@ use Rattle.lf_base.specs.Edges.{Edge, Field, Source, edges_by, field_targets, sl
 use Rattle.lf_base.specs.MoveSet.{LocalPath, continues, move_set, starts}
 use Rattle.lf_base.specs.Names.{same_name, targets_of_value}
 use Rattle.lf_base.specs.Owners.{has_name, is_bridge, is_in, is_local_at, names, owner_in, row_at}
-use Rattle.lf_base.specs.Ownership.{Above, owning_edges}
+use Rattle.lf_base.specs.Ownership.{owning_edges}
 use Rattle.lf_base.specs.PlainState.{Row, State}
 use Rattle.lf_base.specs.Sets.{Member}
 use Rattle.lf_base.specs.TakeResult.{row_field}
@@ -26,7 +26,7 @@ use Rattle.lf_base.proofs.ListLemmas.Members.{Member_any, Member_flat_map, Membe
 use Rattle.lf_base.proofs.NameLemmas.SameNames.{same_name_is, same_name_itself}
 use Rattle.lf_barrier.specs.declared.survey.Survey.{Survey}
 use Rattle.lf_barrier.specs.Descents.{IsBelow}
-use Rattle.lf_barrier.specs.Surveys.{IsSurvey, is_other_bridge, is_owned_besides, is_that, objects_touched, visits_of}
+use Rattle.lf_barrier.specs.Surveys.{IsSurvey, is_other_bridge, is_that, objects_touched, visits_of}
 use Rattle.lf_barrier.proofs.ContentCalls.{some_left}
 use Rattle.lf_barrier.proofs.FieldLoops.{fields_told}
 use Rattle.lf_barrier.proofs.SurveySteps.{touched_is}
@@ -42,7 +42,7 @@ use Rattle.lf_laws.proofs.Judging.OwnersCounted.{old_owns}
 use Rattle.lf_laws.proofs.Judging.Refusals.{not_refused, refused_cycle, refused_inside, refused_second}
 use Rattle.lf_laws.proofs.Owners.PathsOfSets.{move_set_path}
 use Rattle.lf_laws.proofs.Rows.OwnerTests.{in_region}
-use Rattle.lf_laws.proofs.Rows.RowsByName.{Member_has_name, at_mem, has_name_Member, owner_mem}
+use Rattle.lf_laws.proofs.Rows.RowsByName.{at_mem, has_name_Member, owner_mem}
 use Rattle.lf_laws.proofs.Writes.MovedRows.{of_moved}
 use Rattle.lf_regions.specs.declared.region.Region.{Region}
 use Rattle.lf_regions.specs.Regions.{owned_of}

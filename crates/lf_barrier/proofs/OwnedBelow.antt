@@ -1,5 +1,5 @@
 -- What a region owns by its rows is what it owns in the state; and a walk from bridges finds all regions below them.
-use Rattle.std.proofs.Common.{Bool, List, None, Option, Some, [], ap, arith, cond, false, flat_map, inl, inr, length, not, refl, slice_get, subst, sym, true, ℕ, ◌&&◌, ◌+◌, ◌++◌, ◌||◌, ◌∙◌, ◌∷◌, ◌≡◌, ◌⊎◌}
+use Rattle.std.proofs.Common.{Bool, List, None, Option, Some, [], ap, cond, false, inl, inr, length, not, refl, slice_get, subst, sym, true, ℕ, ◌&&◌, ◌+◌, ◌++◌, ◌||◌, ◌∙◌, ◌∷◌, ◌≡◌, ◌⊎◌}
 use Rattle.std.proofs.lemmas.Bool.{false_from_ne_true}
 use Rattle.std.proofs.lemmas.List.{append-nil, append_assoc, length-append}
 use Rattle.std.proofs.Math.Bool.{or-false, or-true}
@@ -7,12 +7,11 @@ use Rattle.std.specs.List.{list_any}
 use Rattle.lf_base.specs.declared.ids.ObjId.{ObjId}
 use Rattle.lf_base.specs.declared.values.Owner.{Owner}
 use Rattle.lf_base.specs.declared.values.Owner.TheVariants.{Frozen, In, Local}
-use Rattle.lf_base.specs.EdgeLists.{near_edges}
 use Rattle.lf_base.specs.Edges.{Content, Edge, Field, Slot, Source, edges, field_targets, rows_edges}
 use Rattle.lf_base.specs.Names.{same_name, same_owner}
-use Rattle.lf_base.specs.Owners.{has_name, is_bridge, is_in, owner_in, row_at}
+use Rattle.lf_base.specs.Owners.{has_name, is_bridge, is_in, owner_in}
 use Rattle.lf_base.specs.Ownership.{Above, direct, is_from, is_in_other, is_owned, is_owning, owns, step}
-use Rattle.lf_base.specs.PlainState.{Row, State}
+use Rattle.lf_base.specs.PlainState.{State}
 use Rattle.lf_base.specs.Sets.{Member}
 use Rattle.lf_base.specs.TouchedEdges.{row_fields}
 use Rattle.lf_base.proofs.ListLemmas.Filters.{Member_filter, Member_of_filter}
@@ -30,11 +29,11 @@ use Rattle.lf_barrier.proofs.SurveyRows.{head_at, none_at}
 use Rattle.lf_domain.specs.Counts.{IsDomain}
 use Rattle.lf_domain.proofs.NearCounts.{bridge_has_row}
 use Rattle.lf_domain.proofs.StoreEdges.{owner_told}
-use Rattle.lf_graph.specs.StoredRows.{AreRowsOf, CountedRow, HasRow, NamesDiffer, fields_at, fields_by, is_under, owner_at, owner_by, row_named, rows_of}
+use Rattle.lf_graph.specs.StoredRows.{AreRowsOf, CountedRow, fields_by, is_under, owner_at, owner_by, row_named, rows_of}
 use Rattle.lf_graph.proofs.Stores.Reordered.{same_owner_is, same_owner_itself}
 use Rattle.lf_laws.proofs.Dropping.RowsInPlace.{rows_in_place}
 use Rattle.lf_laws.proofs.Edges.FrozenEdges.{near_owned}
-use Rattle.lf_laws.proofs.Rows.EdgeSources.{EdgeBegins, at_content, at_frozen, at_row, at_slot, edge_begins}
+use Rattle.lf_laws.proofs.Rows.EdgeSources.{at_content, at_frozen, at_row, at_slot, edge_begins}
 use Rattle.lf_laws.proofs.Rows.OwnerTests.{in_region}
 use Rattle.lf_laws.proofs.Rows.RowEdges.{edge_row}
 use Rattle.lf_laws.proofs.Rows.RowsByName.{at_mem, has_append}

@@ -1,38 +1,29 @@
 -- The bridges that a region owns, found row by row; and those below others, region by region.
-use Rattle.std.proofs.Common.{Bool, List, None, Option, Some, [], ap, arith, cond, false, flat_map, inl, inr, length, map, not, refl, slice_get, subst, suc, sym, true, zero, ℕ, ◌&&◌, ◌+◌, ◌++◌, ◌<◌, ◌||◌, ◌∙◌, ◌∷◌, ◌≡◌, ◌≤◌, ◌⊎◌}
-use Rattle.std.proofs.lemmas.Bool.{false_from_ne_true}
-use Rattle.std.proofs.lemmas.List.{append-nil, append_assoc, length-append}
-use Rattle.std.proofs.Math.Bool.{or-false, or-true}
+use Rattle.std.proofs.Common.{Bool, List, None, Option, Some, [], ap, cond, false, flat_map, inl, inr, length, not, refl, subst, sym, true, ℕ, ◌&&◌, ◌+◌, ◌++◌, ◌||◌, ◌∙◌, ◌∷◌, ◌≡◌, ◌≤◌, ◌⊎◌}
+use Rattle.std.proofs.lemmas.List.{append-nil, append_assoc}
+use Rattle.std.proofs.Math.Bool.{or-true}
 use Rattle.std.specs.List.{list_any}
 use Rattle.std.specs.Option.{is_some}
 use Rattle.lf_base.specs.declared.ids.ObjId.{ObjId}
 use Rattle.lf_base.specs.declared.values.Key.{Key}
-use Rattle.lf_base.specs.declared.values.Owner.{Owner}
-use Rattle.lf_base.specs.declared.values.Owner.TheVariants.{Frozen, In, Local}
+use Rattle.lf_base.specs.declared.values.Owner.TheVariants.{In}
 use Rattle.lf_base.specs.declared.values.Value.{Value}
-use Rattle.lf_base.specs.Edges.{Content, Edge, Field, Slot, Source, edges, field_targets, rows_edges}
+use Rattle.lf_base.specs.Edges.{field_targets}
 use Rattle.lf_base.specs.FieldOrder.{field_after}
 use Rattle.lf_base.specs.Links.{head_or}
-use Rattle.lf_base.specs.Names.{same_name, same_owner, targets_of_value}
-use Rattle.lf_base.specs.Owners.{has_name, is_bridge, is_in, names, owner_in}
-use Rattle.lf_base.specs.Ownership.{Above, is_from, is_owning, owns}
-use Rattle.lf_base.specs.PlainState.{Row, State}
-use Rattle.lf_base.specs.Sets.{Differ, Member}
-use Rattle.lf_base.proofs.ListLemmas.Filters.{Member_filter, Member_of_filter}
-use Rattle.lf_base.proofs.ListLemmas.Members.{Member_any, Member_flat_map, Member_left, Member_of_append, Member_of_flat_map, Member_right, any_Member}
+use Rattle.lf_base.specs.Names.{same_name, targets_of_value}
+use Rattle.lf_base.specs.Owners.{has_name, names}
+use Rattle.lf_base.specs.Sets.{Member}
+use Rattle.lf_base.proofs.ListLemmas.Filters.{Member_of_filter}
+use Rattle.lf_base.proofs.ListLemmas.Members.{Member_flat_map, Member_left, Member_of_append, Member_right}
 use Rattle.lf_base.proofs.NameLemmas.SameNames.{same_name_is, same_name_itself}
-use Rattle.lf_barrier.specs.Descents.{IsBelow, Looked, Passed, is_child, region_targets}
-use Rattle.lf_barrier.specs.Surveys.{is_other_bridge, with_name}
-use Rattle.lf_barrier.proofs.FieldLoops.{FieldWalk, fields_told, walk_begins, walk_goes_on, walk_over}
-use Rattle.lf_barrier.proofs.InsideWrite.{target_edge}
+use Rattle.lf_barrier.specs.Descents.{Looked, Passed, is_child, region_targets}
+use Rattle.lf_barrier.specs.Surveys.{with_name}
+use Rattle.lf_barrier.proofs.FieldLoops.{FieldWalk, walk_begins, walk_goes_on, walk_over}
 use Rattle.lf_barrier.proofs.SurveySteps.{flat_more, grows_if, has_if, targets_more}
-use Rattle.lf_domain.specs.Counts.{IsDomain}
-use Rattle.lf_domain.proofs.StoreEdges.{owner_told}
-use Rattle.lf_graph.specs.StoredRows.{CountedRow, HasRow, NamesDiffer, fields_at, fields_by, first_name, is_named, is_under, name_after, owner_at, plain, row_named, rows_beside, rows_of}
+use Rattle.lf_graph.specs.StoredRows.{CountedRow, HasRow, NamesDiffer, fields_at, fields_by, first_name, is_under, name_after, owner_at, plain, row_named, rows_beside, rows_of}
 use Rattle.lf_graph.proofs.Stores.FieldWalks.{FieldKeysDiffer}
-use Rattle.lf_graph.proofs.Stores.Reordered.{same_owner_is, same_owner_itself}
 use Rattle.lf_graph.proofs.Stores.Walks.{next_in_walk}
-use Rattle.lf_regions.specs.declared.region.Region.{Region}
 
 both_true : (a b : Bool) → (a && b) ≡ true → (a ≡ true) × (b ≡ true)
 both_true true b e = (refl, e)

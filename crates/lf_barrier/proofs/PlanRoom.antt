@@ -1,14 +1,13 @@
 -- The rows that a plan moves, the room that it needs, and a target without a mutable row.
-use Rattle.std.proofs.Common.{List, None, Option, Some, ap, arith, cond, false, length, refl, subst, sym, true, ℕ, ◌+◌, ◌∙◌, ◌∷◌, ◌≡◌, ◌≤◌, []}
+use Rattle.std.proofs.Common.{List, None, Some, ap, arith, cond, false, length, sym, true, ℕ, ◌+◌, ◌∙◌, ◌≡◌, ◌≤◌}
 use Rattle.std.specs.List.{sum_by}
 use Rattle.std.specs.Option.{is_some}
 use Rattle.lf_base.specs.declared.faults.Fault.TheVariants.{FrozenWrite}
 use Rattle.lf_base.specs.declared.ids.ObjId.{ObjId}
 use Rattle.lf_base.specs.declared.values.Key.{Key}
-use Rattle.lf_base.specs.declared.values.Owner.{Owner}
-use Rattle.lf_base.specs.declared.values.Owner.TheVariants.{Frozen, In, Local}
+use Rattle.lf_base.specs.declared.values.Owner.TheVariants.{Frozen, Local}
 use Rattle.lf_base.specs.declared.values.Value.{Value}
-use Rattle.lf_base.specs.Owners.{has_name, owner_in}
+use Rattle.lf_base.specs.Owners.{has_name}
 use Rattle.lf_base.specs.PlainState.{State}
 use Rattle.lf_base.specs.TakeResult.{field_at}
 use Rattle.lf_base.specs.TouchedEdges.{WritesInto}

@@ -2,8 +2,7 @@
 use Rattle.std.proofs.Common.{List, None, Option, Some, [], ap, arith, cond, drop, false, get_or, length, map, refl, subst, suc, sym, true, zero, ℕ, ◌+◌, ◌++◌, ◌<◌, ◌^◌, ◌||◌, ◌∙◌, ◌∷◌, ◌≡◌, ◌≤◌}
 use Rattle.std.proofs.lemmas.Bool.{false_from_ne_true}
 use Rattle.std.proofs.lemmas.List.{append_assoc}
-use Rattle.std.proofs.Math.Bool.{or-false, or-true}
-use Rattle.std.specs.List.{count_by}
+use Rattle.std.proofs.Math.Bool.{or-true}
 use Rattle.std.specs.Option.{option_map}
 use Rattle.lf_base.specs.declared.ids.ObjId.{ObjId}
 use Rattle.lf_base.specs.declared.values.Owner.{Owner}
@@ -13,7 +12,6 @@ use Rattle.lf_base.specs.Edges.{Content, Edge, Field, Slot, Source, edges_by}
 use Rattle.lf_base.specs.Names.{same_name}
 use Rattle.lf_base.specs.Owners.{has_name, is_local_at, owner_in, row_at}
 use Rattle.lf_base.specs.PlainState.{Row}
-use Rattle.lf_base.specs.Sets.{Differ, Member}
 use Rattle.lf_base.specs.TouchedEdges.{edges_from, row_fields}
 use Rattle.lf_base.specs.WalkCounts.{is_borrower}
 use Rattle.lf_base.specs.WriteResult.{relabel}

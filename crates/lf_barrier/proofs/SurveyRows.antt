@@ -1,17 +1,16 @@
 -- A survey over the rows that move, each of them once.
-use Rattle.std.proofs.Common.{Bool, List, None, Option, Some, [], ap, arith, cond, false, flat_map, inl, inr, length, map, refl, slice_get, subst, suc, sym, true, zero, ℕ, ◌&&◌, ◌+◌, ◌++◌, ◌<◌, ◌||◌, ◌∙◌, ◌∷◌, ◌≡◌, ◌≤◌, ◌⊎◌}
+use Rattle.std.proofs.Common.{Bool, List, None, Option, Some, [], ap, arith, false, flat_map, inl, inr, length, refl, slice_get, subst, suc, sym, true, zero, ℕ, ◌&&◌, ◌+◌, ◌++◌, ◌||◌, ◌∙◌, ◌∷◌, ◌≡◌, ◌⊎◌}
 use Rattle.std.proofs.lemmas.List.{append-nil, append_assoc, length-append}
 use Rattle.std.proofs.Math.Bool.{or-true}
 use Rattle.std.specs.List.{list_any}
 use Rattle.lf_base.specs.declared.ids.ObjId.{ObjId}
-use Rattle.lf_base.specs.declared.values.Key.{Key}
 use Rattle.lf_base.specs.declared.values.Owner.TheVariants.{Local}
 use Rattle.lf_base.specs.declared.values.Value.{Value}
 use Rattle.lf_base.specs.Edges.{Field, field_targets}
 use Rattle.lf_base.specs.MoveSet.{move_set}
-use Rattle.lf_base.specs.Names.{same_key, same_name, targets_of_value}
+use Rattle.lf_base.specs.Names.{same_name, targets_of_value}
 use Rattle.lf_base.specs.Owners.{has_name, is_local_at, names, owner_in}
-use Rattle.lf_base.specs.PlainState.{Row, State}
+use Rattle.lf_base.specs.PlainState.{State}
 use Rattle.lf_base.specs.Sets.{Differ, Member}
 use Rattle.lf_base.proofs.ListLemmas.Members.{Member_left, any_Member}
 use Rattle.lf_base.proofs.NameLemmas.SameNames.{same_name_is}

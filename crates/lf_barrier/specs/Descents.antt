@@ -1,5 +1,5 @@
 -- What a region owns, as its rows tell, and whether a region lies below bridges.
-use Rattle.std.specs.Prelude.{Bool, List, None, Option, Some, false, flat_map, not, true, ◌&&◌, ◌++◌, ◌≡◌, ◌⊎◌}
+use Rattle.std.specs.Prelude.{Bool, List, Option, Some, false, flat_map, not, true, ◌&&◌, ◌++◌, ◌≡◌, ◌⊎◌}
 use Rattle.lf_base.specs.declared.ids.ObjId.{ObjId}
 use Rattle.lf_base.specs.declared.values.Owner.{Owner}
 use Rattle.lf_base.specs.declared.values.Owner.TheVariants.{In}

@@ -15,8 +15,8 @@ use Rattle.lf_settle.specs.Verdicts.{GoesAlone, GoesWhole}
 use Rattle.lf_settle.specs.WorkLists.{WorkList}
 
 -- the state with the rows of the store
-abbrev pub stored : State → List CountedRow → State
-stored s rows = record s { rows = rows_by_name (plain rows) }
+abbrev pub stored_state : State → List CountedRow → State
+stored_state s rows = record s { rows = rows_by_name (plain rows) }
 
 -- no suspect is pushed or taken out without its room
 abbrev pub SameCapacity : WorkList → WorkList → Type 0

@@ -9,7 +9,7 @@ ghost use Rattle.lf_graph.specs.StoredRows.{HasRow};
 ghost use Rattle.lf_settle.specs.SettledStates.{IsCounted};
 ghost use Rattle.lf_settle.specs.Verdicts.{Judges};
 ghost use Rattle.lf_settle.specs.Verdicts as table;
-ghost use Rattle.lf_settle.specs.WorkLists.{seen};
+ghost use Rattle.lf_settle.specs.WorkLists.{suspected_place};
 
 use crate::losses::is_bare;
 use crate::verdict::Verdict;
@@ -27,7 +27,7 @@ pub fn judge<S: Store, L: Ledger>(
     steps: &mut Steps<L>,
 ) -> Verdict
     requires state { (s : State) × IsCounted (S.rows store.now) regions.now s }
-    ensures judged { (s : State) → IsCounted (S.rows store.now) regions.now s → Judges s result (seen suspect) }
+    ensures judged { (s : State) → IsCounted (S.rows store.now) regions.now s → Judges s result (suspected_place suspect) }
     ensures steps { steps.new ≤ steps.old + 2 }
 {
     match suspect {

@@ -31,7 +31,7 @@ pub fn noticed_edges_are_lost()
 pub fn hanging_rows_may_be_settled()
     ensures hanging { (rows : List CountedRow) (regions : List Region) (work : WorkList) (s : State) → IsCounted rows regions s
         → AllHang s work.suspects → length s.rows + length (bridges s) ≤ work.spare → CanSettle rows regions work s }
-    ensures stored { (rows : List CountedRow) (regions : List Region) (s : State) → CountsOf rows regions s
+    ensures stored_state { (rows : List CountedRow) (regions : List Region) (s : State) → CountsOf rows regions s
         → length s.rows ≡ length rows }
     ensures none { (rows : List CountedRow) (regions : List Region) (work : WorkList) (s : State) → CanSettle rows regions work s
         → CountsOf rows regions s }

@@ -5,9 +5,9 @@ ghost use Rattle.lf_base.specs.Kept.{kept};
 ghost use Rattle.lf_base.specs.Losses.{dropped};
 ghost use Rattle.lf_base.specs.PlainState.{State};
 ghost use Rattle.lf_domain.specs.Counts.{CountsOf};
-ghost use Rattle.lf_settle.specs.Drops.{SameCapacity, Settles, owed, stored};
+ghost use Rattle.lf_settle.specs.Drops.{SameCapacity, Settles, owed, stored_state};
 ghost use Rattle.lf_settle.specs.SettledStates.{CanDrop, CanSettle};
-ghost use Rattle.lf_settle.specs.WorkLists.{seen};
+ghost use Rattle.lf_settle.specs.WorkLists.{suspected_place};
 
 use crate::dropping::{drop_region, drop_row};
 use crate::judging::judge;
@@ -28,10 +28,10 @@ fn settle_one<S: Store, L: Ledger>(
 )
     requires state { (s : State) × CanDrop (S.rows store.old) regions.old work.old s }
     ensures settles { (s : State) → CanDrop (S.rows store.old) regions.old work.old s
-        → Settles s (stored s (S.rows store.new)) (seen suspect) work.old work.new (S.rows store.new) regions.new }
+        → Settles s (stored_state s (S.rows store.new)) (suspected_place suspect) work.old work.new (S.rows store.new) regions.new }
     ensures capacity { SameCapacity work.old work.new }
     ensures steps { (s : State) → CanDrop (S.rows store.old) regions.old work.old s
-        → owed steps.new work.new (stored s (S.rows store.new)).rows ≤ owed steps.old work.old s.rows + 2 }
+        → owed steps.new work.new (stored_state s (S.rows store.new)).rows ≤ owed steps.old work.old s.rows + 2 }
 {
     match judge(store, regions, suspect, steps) {
         Verdict::Stays => {}

@@ -50,8 +50,8 @@ slots_whole = slots_keep two_regions (Some (Obj first) ∷ (Some (Obj second) �
 cycle_whole : WellFormed region_in_cycle
 cycle_whole = (write_law regions_in_slots slots_whole first key_zero (Obj first) (there regions_in_slots first refl) (In first) refl).0 refl
 
-pub owner_whole : WellFormed owner_and_child
-owner_whole = (write_law region_in_cycle cycle_whole first key_one (Obj second) (there region_in_cycle second refl) (In first) refl).0 refl
+pub owner_is_whole : WellFormed owner_and_child
+owner_is_whole = (write_law region_in_cycle cycle_whole first key_one (Obj second) (there region_in_cycle second refl) (In first) refl).0 refl
 
 -- an edge from the first bridge to a bridge may be counted
 pub inner_more : (bridge : ObjId) → owner_in two_regions.rows bridge ≡ Some (In bridge) → (rows : List CountedRow) (regions : List Region) (es : List Edge) → Counts rows regions two_regions.rows es → length es < 2 ^ 63
@@ -82,7 +82,7 @@ owner_counted rows regions = same_counts rows regions owner_and_child.rows four_
 pub owner_may_go : (rows : List CountedRow) (regions : List Region) (work : WorkList) → CountsOf rows regions owner_and_child → work.suspects ≡ [] → 4 ≤ work.spare
     → MayUnset rows regions work owner_and_child 0 (Some (Obj first))
 owner_may_go rows regions work c none room = record {
-  can_drop = record { counted = record { counts = c; well_formed = owner_whole }; room = room };
+  can_drop = record { counted = record { counts = c; well_formed = owner_is_whole }; room = room };
   all_stay = refl;
   there = omega arith;
   holds = refl;

@@ -13,7 +13,7 @@ use Rattle.lf_laws.proofs.Dropping.HangingRows.{settled}
 use Rattle.lf_laws.proofs.Dropping.RowsInPlace.{rows_in_place}
 use Rattle.lf_laws.proofs.Losses.DroppedSets.{justified_most}
 use Rattle.lf_regions.specs.declared.region.Region.{Region}
-use Rattle.lf_settle.specs.Drops.{Settles, owed, stored}
+use Rattle.lf_settle.specs.Drops.{Settles, owed, stored_state}
 use Rattle.lf_settle.specs.SettledStates.{CanDrop, CanSettle, IsCounted}
 use Rattle.lf_settle.specs.Walks.{Going}
 use Rattle.lf_settle.specs.WorkLists.{WorkList}
@@ -34,7 +34,7 @@ as_many_stored rows regions s c = sym (ap length ((c.store).rows).rise) ∙ orde
 module _ (s : State) (rows0 : List CountedRow) (regions0 : List Region) (old : WorkList) (can : CanSettle rows0 regions0 old s) (before : ℕ) where
   pub going_init : Going s rows0 regions0 old old before before
   going_init =
-      let is : s ≡ stored s rows0 = sym (stored_is s rows0 (are_rows rows0 regions0 s can.can_drop.counted)) in
+      let is : s ≡ stored_state s rows0 = sym (stored_is s rows0 (are_rows rows0 regions0 s can.can_drop.counted)) in
       record {
         can = subst (CanDrop rows0 regions0 old) is can.can_drop;
         watched = subst (λ t. Watched t old.suspects) is can.watched;
@@ -45,26 +45,26 @@ module _ (s : State) (rows0 : List CountedRow) (regions0 : List Region) (old : W
   module _ (rows : List CountedRow) (regions : List Region) (work : WorkList) (after : ℕ) (going : Going s rows regions old work before after) where
     -- a suspect is taken off the list
     module _ (u : Suspect) (popped : WorkList) (last : work.suspects ≡ u ∷ popped.suspects) (more : popped.spare ≡ work.spare + 1) where
-      pub can_next : CanDrop rows regions popped (stored s rows)
+      pub can_next : CanDrop rows regions popped (stored_state s rows)
       can_next = record { counted = going.can.counted; room = omega (arith, going.can.room, more) }
 
-      pub going_on : (rows1 : List CountedRow) (regions1 : List Region) (new : WorkList) (end : ℕ) → Settles (stored s rows) (stored s rows1) u popped new rows1 regions1
-          → owed end new (stored s rows1).rows ≤ owed after popped (stored s rows).rows + 2 → Going s rows1 regions1 old new before end
+      pub going_on : (rows1 : List CountedRow) (regions1 : List Region) (new : WorkList) (end : ℕ) → Settles (stored_state s rows) (stored_state s rows1) u popped new rows1 regions1
+          → owed end new (stored_state s rows1).rows ≤ owed after popped (stored_state s rows).rows + 2 → Going s rows1 regions1 old new before end
       going_on rows1 regions1 new end settles cost = record {
         can = settles.can;
-        watched = settles.watched (subst (Watched (stored s rows)) last going.watched);
+        watched = settles.watched (subst (Watched (stored_state s rows)) last going.watched);
         same = settles.same ∙ going.same;
         cost = omega (arith, cost, ap length last, going.cost);
       }
 
     -- no suspect is left
     module _ (none : work.suspects ≡ []) where
-      all_stay : kept_rows (stored s rows) ≡ (stored s rows).rows
+      all_stay : kept_rows (stored_state s rows) ≡ (stored_state s rows).rows
       all_stay =
           let well = going.can.counted.well_formed in
-          settled (stored s rows) (rows_in_place (stored s rows) well) (subst (Watched (stored s rows)) none going.watched) well.no_round
+          settled (stored_state s rows) (rows_in_place (stored_state s rows) well) (subst (Watched (stored_state s rows)) none going.watched) well.no_round
 
-      pub is_kept : stored s rows ≡ kept s
+      pub is_kept : stored_state s rows ≡ kept s
       is_kept = ap (λ l. record s { rows = l }) (sym all_stay ∙ going.same)
 
       pub counts_kept : CountsOf rows regions (kept s)

@@ -24,21 +24,21 @@ use Rattle.lf_laws.proofs.Losses.EmptiedRows.{clear}
 use Rattle.lf_laws.proofs.Losses.LossesFollow.{loses_nothing, loses_then}
 use Rattle.lf_laws.proofs.Rows.OwnerTests.{in_region}
 use Rattle.lf_regions.specs.declared.region.Region.{Region}
-use Rattle.lf_settle.specs.Drops.{CanDropRegion, CanEmpty, SameCapacity, left_to_do, owed, stored}
+use Rattle.lf_settle.specs.Drops.{CanDropRegion, CanEmpty, SameCapacity, left_to_do, owed, stored_state}
 use Rattle.lf_settle.specs.SettledStates.{IsCounted}
-use Rattle.lf_settle.specs.Walks.{Sweeping, first_of, names_from}
+use Rattle.lf_settle.specs.Walks.{Sweeping, first_listed, names_from}
 use Rattle.lf_settle.specs.WorkLists.{WorkList}
 use Rattle.lf_settle.proofs.Counting.CountsTell.{are_rows, owner_is_told}
 use Rattle.lf_settle.proofs.RowsDropped.EmptiedRow.{stored_is}
 
 -- ---- names in their order
-first_names : (rows : List CountedRow) → first_name rows ≡ first_of (names (plain rows))
+first_names : (rows : List CountedRow) → first_name rows ≡ first_listed (names (plain rows))
 first_names [] = refl
 first_names (c ∷ cs) = refl
 
 after_named : List ObjId → ObjId → Option ObjId
 after_named [] o = None
-after_named (p ∷ ps) o = cond (same_name p o) (first_of ps) (after_named ps o)
+after_named (p ∷ ps) o = cond (same_name p o) (first_listed ps) (after_named ps o)
 
 names_after : (rows : List CountedRow) (o : ObjId) → name_after rows o ≡ after_named (names (plain rows)) o
 unfolding after_named
@@ -48,12 +48,12 @@ names_after (c ∷ cs) o = (λ i. cond (same_name (c.row).name o) (first_names c
 apart_from : (x : ObjId) (os : List ObjId) (o : ObjId) (ps : List ObjId) → Differ same_name (x ∷ (os ++ o ∷ ps)) → same_name x o ≡ false
 apart_from x os o ps d = same_name_flips x o ∙ none_any (λ (n : ObjId). same_name n x) (os ++ o ∷ ps) d.0 o (Member_right o os (o ∷ ps) (inl refl))
 
-after_here : (os : List ObjId) (o : ObjId) (ps : List ObjId) → Differ same_name (os ++ o ∷ ps) → after_named (os ++ o ∷ ps) o ≡ first_of ps
+after_here : (os : List ObjId) (o : ObjId) (ps : List ObjId) → Differ same_name (os ++ o ∷ ps) → after_named (os ++ o ∷ ps) o ≡ first_listed ps
 unfolding after_named
-after_here [] o ps d = ap (λ b. cond b (first_of ps) (after_named ps o)) (same_name_itself o)
-after_here (x ∷ os) o ps d = ap (λ b. cond b (first_of (os ++ o ∷ ps)) (after_named (os ++ o ∷ ps) o)) (apart_from x os o ps d) ∙ after_here os o ps d.1
+after_here [] o ps d = ap (λ b. cond b (first_listed ps) (after_named ps o)) (same_name_itself o)
+after_here (x ∷ os) o ps d = ap (λ b. cond b (first_listed (os ++ o ∷ ps)) (after_named (os ++ o ∷ ps) o)) (apart_from x os o ps d) ∙ after_here os o ps d.1
 
-from_here : (os ps : List ObjId) → Differ same_name (os ++ ps) → names_from (first_of ps) (os ++ ps) ≡ ps
+from_here : (os ps : List ObjId) → Differ same_name (os ++ ps) → names_from (first_listed ps) (os ++ ps) ≡ ps
 from_here [] [] d = refl
 from_here (x ∷ os) [] d = refl
 from_here [] (p ∷ ps) d = ap (λ b. cond b (p ∷ ps) (names_from (Some p) ps)) (same_name_itself p)
@@ -119,7 +119,7 @@ clear_all gone (r ∷ rs) h = (λ i. one (gone r.name) refl i ∷ clear_all gone
 module _ (s : State) (r : ObjId) (rows0 : List CountedRow) (regions0 : List Region) (work0 : WorkList) (can : CanDropRegion rows0 regions0 work0 s r) (steps0 : ℕ) where
   pub sweep_init : (next : Option ObjId) (steps : ℕ) → next ≡ first_name (rows_of (In r) rows0) → steps ≡ steps0 + 1 → Sweeping s r next rows0 regions0 work0 work0 steps0 steps
   sweep_init next steps first e =
-      let is : s ≡ stored s rows0 = sym (stored_is s rows0 (are_rows rows0 regions0 s can.can.counted)) in
+      let is : s ≡ stored_state s rows0 = sym (stored_is s rows0 (are_rows rows0 regions0 s can.can.counted)) in
       record {
         counted = subst (IsCounted rows0 regions0) is can.can.counted;
         same = ap (λ t. emptied t (of_region s r)) (sym is);
@@ -135,14 +135,14 @@ module _ (s : State) (r : ObjId) (rows0 : List CountedRow) (regions0 : List Regi
 
   module _ (next : Option ObjId) (rows : List CountedRow) (regions : List Region) (work : WorkList) (steps : ℕ) (sweep : Sweeping s r next rows regions work0 work steps0 steps) where
     abbrev t : State
-    t = stored s rows
+    t = stored_state s rows
 
     differ_rows : NamesDiffer rows
     differ_rows = (are_rows rows regions t sweep.counted).differ
 
     -- ---- the next row
     module _ (o : ObjId) (some : next ≡ Some o) where
-      rest_of : (os : List ObjId) → first_of os ≡ Some o → (rest : List ObjId) × (os ≡ o ∷ rest)
+      rest_of : (os : List ObjId) → first_listed os ≡ Some o → (rest : List ObjId) × (os ≡ o ∷ rest)
       rest_of [] e = absurd (none-some o e)
       rest_of (p ∷ ps) e = (ps, ap (λ z. z ∷ ps) (some_is p o e))
 
@@ -165,7 +165,7 @@ module _ (s : State) (r : ObjId) (rows0 : List CountedRow) (regions0 : List Regi
       sweep_can sum = record { can = record { counted = sweep.counted; room = omega (arith, sweep.loses.paid, sum, can.can.room) }; here = here_too }
 
       module _ (rows1 : List CountedRow) (regions1 : List Region) (work1 : WorkList) (steps1 : ℕ) (counted1 : IsCounted rows1 regions1 (emptied t (same_name o))) (order1 : SameOrder rows1 rows) where
-        is : emptied t (same_name o) ≡ stored s rows1
+        is : emptied t (same_name o) ≡ stored_state s rows1
         is = ap (λ l. record s { rows = l }) (sym (are_rows rows1 regions1 (emptied t (same_name o)) counted1).rise)
 
         differ1 : NamesDiffer rows1
@@ -183,7 +183,7 @@ module _ (s : State) (r : ObjId) (rows0 : List CountedRow) (regions0 : List Regi
         pub still_there : HasRow rows1 o
         still_there = owned_has_row rows1 o (In r) here_now
 
-        next_named : (next1 : Option ObjId) → next1 ≡ name_after (rows_beside rows1 o) o → next1 ≡ first_of rest.0
+        next_named : (next1 : Option ObjId) → next1 ≡ name_after (rows_beside rows1 o) o → next1 ≡ first_listed rest.0
         next_named next1 e = e ∙ ap (λ w. name_after (rows_of_maybe w rows1) o) here_now ∙ names_after (rows_of (In r) rows1) o ∙ ap (λ l. after_named l o) order_now ∙ after_here sweep.done o rest.0 differ_now
 
         pub sweep_on : Loses t (emptied t (same_name o)) work.suspects work1.suspects → left_to_do work1 (emptied t (same_name o)).rows ≤ left_to_do work t.rows
@@ -230,7 +230,7 @@ module _ (s : State) (r : ObjId) (rows0 : List CountedRow) (regions0 : List Regi
     module _ (none : next ≡ None) where
       all_done : sweep.todo ≡ []
       all_done = by sweep.todo (sym sweep.next_is ∙ none) where
-        by : (os : List ObjId) → first_of os ≡ None → os ≡ []
+        by : (os : List ObjId) → first_listed os ≡ None → os ≡ []
         by [] e = refl
         by (p ∷ ps) e = absurd (none-some p (sym e))
 
@@ -246,7 +246,7 @@ module _ (s : State) (r : ObjId) (rows0 : List CountedRow) (regions0 : List Regi
           let at : owner_at rows row.name ≡ Some (In r) = owner_is_told rows regions t sweep.counted row.name ∙ sweep.loses.owners row.name ∙ in_region r (owner_in s.rows row.name) e in
           sweep.empty row m (subst (Member row.name) done_is (in_named rows r row.name at))
 
-      pub all_empty : stored s rows ≡ emptied s (of_region s r)
+      pub all_empty : stored_state s rows ≡ emptied s (of_region s r)
       all_empty = ap (λ l. record s { rows = l }) (sym (clear_all (of_region s r) t.rows no_fields)) ∙ sweep.same
 
       pub sweep_counted : IsCounted rows regions (emptied s (of_region s r))

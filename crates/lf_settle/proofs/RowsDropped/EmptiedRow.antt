@@ -22,7 +22,7 @@ use Rattle.lf_laws.proofs.Losses.EmptiedRows.{clear}
 use Rattle.lf_laws.proofs.Losses.LossesFollow.{loses_nothing, loses_then}
 use Rattle.lf_laws.proofs.Rows.RowsByName.{Distinct}
 use Rattle.lf_regions.specs.declared.region.Region.{Region}
-use Rattle.lf_settle.specs.Drops.{CanEmpty, SameCapacity, left_to_do, owed, stored}
+use Rattle.lf_settle.specs.Drops.{CanEmpty, SameCapacity, left_to_do, owed, stored_state}
 use Rattle.lf_settle.specs.SettledStates.{IsCounted}
 use Rattle.lf_settle.specs.Walks.{Emptying}
 use Rattle.lf_settle.specs.WorkLists.{WorkList}
@@ -31,7 +31,7 @@ use Rattle.lf_settle.proofs.RowsDropped.FieldsDropped.{row_found}
 use Rattle.lf_graph.specs.StoredRows.{HasRow}
 
 -- the store's rows are the state's
-pub stored_is : (s : State) (rows : List CountedRow) → AreRowsOf rows s.rows → stored s rows ≡ s
+pub stored_is : (s : State) (rows : List CountedRow) → AreRowsOf rows s.rows → stored_state s rows ≡ s
 stored_is s rows are = ap (λ l. record s { rows = l }) are.rise
 
 -- one field less
@@ -120,7 +120,7 @@ first_at (f ∷ fs) k v e =
 module _ (s : State) (rows0 : List CountedRow) (regions0 : List Region) (work0 : WorkList) (o : ObjId) (owner : Owner) (can : CanEmpty rows0 regions0 work0 s o owner) (steps0 : ℕ) where
   pub empty_init : Emptying s o rows0 regions0 work0 work0 steps0 steps0
   empty_init =
-      let is : s ≡ stored s rows0 = sym (stored_is s rows0 (are_rows rows0 regions0 s can.can.counted)) in
+      let is : s ≡ stored_state s rows0 = sym (stored_is s rows0 (are_rows rows0 regions0 s can.can.counted)) in
       record {
         counted = subst (IsCounted rows0 regions0) is can.can.counted;
         same = ap (λ t. emptied t (same_name o)) (sym is);
@@ -131,7 +131,7 @@ module _ (s : State) (rows0 : List CountedRow) (regions0 : List Region) (work0 :
 
   module _ (rows : List CountedRow) (regions : List Region) (work : WorkList) (steps : ℕ) (going : Emptying s o rows regions work0 work steps0 steps) where
     abbrev t : State
-    t = stored s rows
+    t = stored_state s rows
 
     pub here_still : owner_in t.rows o ≡ Some owner
     here_still = going.loses.owners o ∙ can.here
@@ -150,7 +150,7 @@ module _ (s : State) (rows0 : List CountedRow) (regions0 : List Region) (work0 :
           size_less t.rows o key r.0 value (rows_in_place t going.counted.well_formed).distinct r.1 (ap (λ fs. field_at fs key) (sym fields) ∙ first_at (fields_at rows o) key value (sym first))
 
       module _ (rows1 : List CountedRow) (regions1 : List Region) (work1 : WorkList) (steps1 : ℕ) (counted1 : IsCounted rows1 regions1 (take_result t o key)) where
-        is : take_result t o key ≡ stored s rows1
+        is : take_result t o key ≡ stored_state s rows1
         is = ap (λ l. record s { rows = l }) (sym (are_rows rows1 regions1 (take_result t o key) counted1).rise)
 
         pub size_falls : size (rows_by_name (plain rows1)) + 1 ≡ size (rows_by_name (plain rows))
@@ -167,7 +167,7 @@ module _ (s : State) (rows0 : List CountedRow) (regions0 : List Region) (work0 :
         }
 
     module _ (last : None ≡ field_after (fields_at rows o) None) where
-      pub emptied_all : stored s rows ≡ emptied s (same_name o)
+      pub emptied_all : stored_state s rows ≡ emptied s (same_name o)
       emptied_all =
           let r = row_found t.rows o owner here_still in
           let bare : (r.0).fields ≡ [] = sym (fields_row (row_named rows o) r.0 (sym (found_of rows t.rows o (are_rows rows regions t going.counted)) ∙ r.1)) ∙ no_first (fields_at rows o) (sym last) in

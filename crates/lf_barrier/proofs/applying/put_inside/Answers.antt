@@ -1,4 +1,4 @@
-use Rattle.std.proofs.Common.{arith, sym, ◌++◌, ◌+◌, ◌≤◌, ◌∙◌}
+use Rattle.std.proofs.Common.{arith, ◌++◌, ◌≤◌, ◌∙◌}
 use Rattle.lf_base.specs.declared.values.Owner.TheVariants.{In}
 use Rattle.lf_base.specs.EdgeLists.{near_edges}
 use Rattle.lf_base.specs.TouchedEdges.{edges_from}

@@ -1,14 +1,11 @@
-use Rattle.std.proofs.Common.{List, Option, Some, ap, sym, ◌++◌, ◌∙◌, ◌≡◌, ◌≤◌}
-use Rattle.lf_base.specs.declared.values.Owner.{Owner}
+use Rattle.std.proofs.Common.{Some, sym, ◌++◌, ◌∙◌}
 use Rattle.lf_base.specs.declared.values.Owner.TheVariants.{Local}
 use Rattle.lf_base.specs.EdgeLists.{near_edges}
 use Rattle.lf_base.specs.Edges.{Field, edges_by, slot_targets}
-use Rattle.lf_base.specs.Owners.{row_at}
-use Rattle.lf_base.specs.TakeResult.{row_field}
 use Rattle.lf_base.specs.WriteResult.{write_fields, write_result}
 use Rattle.lf_domain.proofs.LocalWrite.{near, old_may_go, room_stays, row_there, written}
 use Rattle.lf_domain.proofs.StateEdges.{may_count}
-use Rattle.lf_domain.proofs.StoreEdges.{field_told, owner_told}
+use Rattle.lf_domain.proofs.StoreEdges.{field_told}
 use Rattle.lf_barrier.proofs.RoomHere.{room_here}
 use Rattle.lf_barrier.proofs.applying.put_local.Goals as goal
 

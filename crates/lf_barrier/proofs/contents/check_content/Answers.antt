@@ -1,7 +1,4 @@
 use Rattle.std.proofs.Common.{Some, ap, sym, ◌∙◌}
-use Rattle.std.specs.Prelude.{option_to_list}
-use Rattle.lf_base.specs.declared.values.Owner.TheVariants.{Frozen, In, Local}
-use Rattle.lf_base.specs.ContentRefusal.{refused_targets}
 use Rattle.lf_barrier.proofs.ContentCalls.{refused_frozen, refused_inside, refused_local, refused_none, region_there}
 use Rattle.lf_barrier.proofs.contents.check_content.Goals as goal
 

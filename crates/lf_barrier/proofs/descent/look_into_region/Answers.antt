@@ -1,4 +1,4 @@
-use Rattle.std.proofs.Common.{subst, sym, ◌∙◌}
+use Rattle.std.proofs.Common.{subst}
 use Rattle.lf_base.specs.Edges.{field_targets}
 use Rattle.lf_graph.specs.StoredRows.{fields_at}
 use Rattle.lf_barrier.specs.Descents.{Looked}

@@ -1,4 +1,4 @@
-use Rattle.std.proofs.Common.{arith, subst, sym, true, false, ◌∙◌}
+use Rattle.std.proofs.Common.{arith, subst, sym, ◌∙◌}
 use Rattle.lf_base.specs.Names.{targets_of_value}
 use Rattle.lf_graph.specs.StoredRows.{fields_at}
 use Rattle.lf_barrier.specs.Descents.{Looked}

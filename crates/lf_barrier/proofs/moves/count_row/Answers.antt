@@ -1,6 +1,5 @@
 use Rattle.std.proofs.Common.{ap, arith, length, sym, ◌∙◌}
 use Rattle.lf_base.specs.declared.values.Owner.TheVariants.{In}
-use Rattle.lf_base.specs.Edges.{Field}
 use Rattle.lf_graph.specs.StoredRows.{fields_at}
 use Rattle.lf_base.specs.FieldOrder.{field_after}
 use Rattle.lf_barrier.proofs.FieldLoops.{fields_told, row_there, all_counted, counting_begins, counting_on, value_may_come, walk_not_over}

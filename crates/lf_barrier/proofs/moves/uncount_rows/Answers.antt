@@ -1,4 +1,4 @@
-use Rattle.std.proofs.Common.{ap, arith, drop, length, slice_index_or, subst, ◌+◌, ◌++◌, ◌∷◌}
+use Rattle.std.proofs.Common.{arith, drop, length, slice_index_or, subst, ◌+◌, ◌++◌, ◌∷◌}
 use Rattle.std.proofs.lemmas.List.{drop_more}
 use Rattle.std.proofs.lemmas.List.Sums.{sum_by-drop_more}
 use Rattle.lf_base.specs.TouchedEdges.{edges_from}

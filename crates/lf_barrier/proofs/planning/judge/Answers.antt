@@ -1,4 +1,4 @@
-use Rattle.std.proofs.Common.{subst, sym, ◌∙◌}
+use Rattle.std.proofs.Common.{subst, ◌∙◌}
 use Rattle.lf_base.specs.declared.values.Owner.TheVariants.{In}
 use Rattle.lf_domain.proofs.StoreEdges.{owned_has_row, owner_told}
 use Rattle.lf_base.specs.EdgeLists.{near_edges}

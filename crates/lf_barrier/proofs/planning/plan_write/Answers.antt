@@ -1,5 +1,4 @@
-use Rattle.std.proofs.Common.{None, Some, ap, sym, ◌∙◌}
-use Rattle.lf_base.specs.declared.values.Owner.TheVariants.{Frozen, In, Local}
+use Rattle.std.proofs.Common.{Some, ap, sym, ◌∙◌}
 use Rattle.lf_barrier.proofs.PlanRoom.{frozen_row_refused, no_row_refused}
 use Rattle.lf_barrier.proofs.planning.plan_write.Goals as goal
 

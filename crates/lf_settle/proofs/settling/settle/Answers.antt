@@ -1,6 +1,6 @@
 use Rattle.std.proofs.Common.{ap, arith, length, refl}
-use Rattle.lf_settle.specs.Drops.{stored}
-use Rattle.lf_settle.specs.WorkLists.{seen}
+use Rattle.lf_settle.specs.Drops.{stored_state}
+use Rattle.lf_settle.specs.WorkLists.{suspected_place}
 use Rattle.lf_settle.proofs.Rounds.AllSuspects.{can_next, counts_kept, going_init, going_on, steps_bounded}
 use Rattle.lf_settle.proofs.settling.settle.Goals as goal
 
@@ -14,21 +14,21 @@ pub settle_one-requires-clause-state : goal.settle_one-requires-clause-state
 settle_one-requires-clause-state g c κs within =
     let s = c.requires.state.0 in
     let can = c.requires.state.1 in
-    (stored s (g.S.Store.rows c.loop-suspect.store), can_next s (g.S.Store.rows c.args.store.now) c.args.regions.now c.args.work.now can c.args.steps.now (g.S.Store.rows c.loop-suspect.store) c.loop-suspect.regions c.loop-suspect.work c.loop-suspect.steps (c.loop-suspect.invariant.going s can) (seen c.in-Some.suspect) c.pop.new.self c.in-Some.ensures.suspects c.in-Some.ensures.room)
+    (stored_state s (g.S.Store.rows c.loop-suspect.store), can_next s (g.S.Store.rows c.args.store.now) c.args.regions.now c.args.work.now can c.args.steps.now (g.S.Store.rows c.loop-suspect.store) c.loop-suspect.regions c.loop-suspect.work c.loop-suspect.steps (c.loop-suspect.invariant.going s can) (suspected_place c.in-Some.suspect) c.pop.new.self c.in-Some.ensures.suspects c.in-Some.ensures.room)
 
 pub loop-suspect-smaller : goal.loop-suspect-smaller
 loop-suspect-smaller g c =
     let s = c.requires.state.0 in
     let can = c.requires.state.1 in
-    let next = can_next s (g.S.Store.rows c.args.store.now) c.args.regions.now c.args.work.now can c.args.steps.now (g.S.Store.rows c.loop-suspect.store) c.loop-suspect.regions c.loop-suspect.work c.loop-suspect.steps (c.loop-suspect.invariant.going s can) (seen c.in-Some.suspect) c.pop.new.self c.in-Some.ensures.suspects c.in-Some.ensures.room in
-    omega (arith, (c.settle_one.ensures.settles (stored s (g.S.Store.rows c.loop-suspect.store)) next).less, ap length c.in-Some.ensures.suspects)
+    let next = can_next s (g.S.Store.rows c.args.store.now) c.args.regions.now c.args.work.now can c.args.steps.now (g.S.Store.rows c.loop-suspect.store) c.loop-suspect.regions c.loop-suspect.work c.loop-suspect.steps (c.loop-suspect.invariant.going s can) (suspected_place c.in-Some.suspect) c.pop.new.self c.in-Some.ensures.suspects c.in-Some.ensures.room in
+    omega (arith, (c.settle_one.ensures.settles (stored_state s (g.S.Store.rows c.loop-suspect.store)) next).less, ap length c.in-Some.ensures.suspects)
 
 pub loop-suspect-preserved : goal.loop-suspect-preserved
 loop-suspect-preserved g c = record {
   going = λ s can.
-      let next = can_next s (g.S.Store.rows c.args.store.now) c.args.regions.now c.args.work.now can c.args.steps.now (g.S.Store.rows c.loop-suspect.store) c.loop-suspect.regions c.loop-suspect.work c.loop-suspect.steps (c.loop-suspect.invariant.going s can) (seen c.in-Some.suspect) c.pop.new.self c.in-Some.ensures.suspects c.in-Some.ensures.room in
-      going_on s (g.S.Store.rows c.args.store.now) c.args.regions.now c.args.work.now can c.args.steps.now (g.S.Store.rows c.loop-suspect.store) c.loop-suspect.regions c.loop-suspect.work c.loop-suspect.steps (c.loop-suspect.invariant.going s can) (seen c.in-Some.suspect) c.pop.new.self c.in-Some.ensures.suspects c.in-Some.ensures.room (g.S.Store.rows c.settle_one.new.store) c.settle_one.new.regions c.settle_one.new.work c.settle_one.new.steps
-      (c.settle_one.ensures.settles (stored s (g.S.Store.rows c.loop-suspect.store)) next) (c.settle_one.ensures.steps (stored s (g.S.Store.rows c.loop-suspect.store)) next);
+      let next = can_next s (g.S.Store.rows c.args.store.now) c.args.regions.now c.args.work.now can c.args.steps.now (g.S.Store.rows c.loop-suspect.store) c.loop-suspect.regions c.loop-suspect.work c.loop-suspect.steps (c.loop-suspect.invariant.going s can) (suspected_place c.in-Some.suspect) c.pop.new.self c.in-Some.ensures.suspects c.in-Some.ensures.room in
+      going_on s (g.S.Store.rows c.args.store.now) c.args.regions.now c.args.work.now can c.args.steps.now (g.S.Store.rows c.loop-suspect.store) c.loop-suspect.regions c.loop-suspect.work c.loop-suspect.steps (c.loop-suspect.invariant.going s can) (suspected_place c.in-Some.suspect) c.pop.new.self c.in-Some.ensures.suspects c.in-Some.ensures.room (g.S.Store.rows c.settle_one.new.store) c.settle_one.new.regions c.settle_one.new.work c.settle_one.new.steps
+      (c.settle_one.ensures.settles (stored_state s (g.S.Store.rows c.loop-suspect.store)) next) (c.settle_one.ensures.steps (stored_state s (g.S.Store.rows c.loop-suspect.store)) next);
   capacity = omega (arith, c.settle_one.ensures.capacity, c.in-Some.ensures.room, ap length c.in-Some.ensures.suspects, c.loop-suspect.invariant.capacity);
 }
 

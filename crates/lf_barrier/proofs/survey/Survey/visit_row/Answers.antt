@@ -1,6 +1,5 @@
-use Rattle.std.proofs.Common.{arith, subst, sym, ◌∙◌}
+use Rattle.std.proofs.Common.{arith, sym, ◌∙◌}
 use Rattle.lf_graph.specs.StoredRows.{fields_at}
-use Rattle.lf_graph.proofs.Stores.FieldWalks.{FieldKeysDiffer}
 use Rattle.lf_barrier.proofs.FieldLoops.{walk_not_over}
 use Rattle.lf_barrier.proofs.SurveySteps.{row_begins, row_goes_on, row_visited}
 use Rattle.lf_barrier.proofs.SurveyRows.{stored_keys}

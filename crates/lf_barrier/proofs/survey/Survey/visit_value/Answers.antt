@@ -1,4 +1,4 @@
-use Rattle.std.proofs.Common.{ap, subst, sym, ◌∙◌}
+use Rattle.std.proofs.Common.{subst}
 use Rattle.lf_barrier.specs.Surveys.{Extends}
 use Rattle.lf_barrier.proofs.SurveySteps.{extends_none, extends_one}
 use Rattle.lf_barrier.proofs.survey.Survey.visit_value.Goals as goal
