@@ -88,7 +88,7 @@ const FIRST_LISTING: &str = "body 0 main 0 1
 // A text of a quotation mark and a backslash, and a `when`.
 const SPAWNING_SCRIPT: &str = "c = Cown(1)
 x = \"\\\"\\\\\"
-when c:
+when c with x:
     print(x)";
 
 const SPAWNING_LISTING: &str = "body 0 main 0 2
