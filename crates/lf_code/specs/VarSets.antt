@@ -5,17 +5,17 @@ use Rattle.std.specs.List.{list_any}
 use Rattle.lf_code.specs.declared.var_set.VarSet.{VarSet}
 
 -- the number is among those that are known
-abbrev pub is_named : ℕ → List ℕ → Bool
-is_named v known = list_any (nat_eq v) known
+abbrev pub is_known : ℕ → List ℕ → Bool
+is_known v known = list_any (nat_eq v) known
 
 -- the set has these numbers
 abbrev pub HasVars : VarSet → List ℕ → Type 0
-HasVars set known = (v : ℕ) → contains nat_eq set.vars v ≡ is_named v known
+HasVars set known = (v : ℕ) → contains nat_eq set.vars v ≡ is_known v known
 
 -- each number is new to those that are known and to those before it
 abbrev pub all_new : List ℕ → List ℕ → Bool
 all_new known [] = true
-all_new known (v ∷ vs) = not (is_named v known) && all_new (known ++ v ∷ []) vs
+all_new known (v ∷ vs) = not (is_known v known) && all_new (known ++ v ∷ []) vs
 
 -- all numbers were new, and then the set has them too; or one wasn't
 abbrev pub AddsNew : Bool → List ℕ → List ℕ → VarSet → Type 0

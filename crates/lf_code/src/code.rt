@@ -2,7 +2,7 @@ ghost use Rattle.std.specs.Prelude.{◌≡◌, ◌↔◌, IfOk, IsTrue, List, le
 ghost use Rattle.std.specs.Option.{option_copied};
 ghost use Rattle.std.specs.Prelude.{slice_get};
 ghost use Rattle.lf_base.specs.Texts.{Text};
-ghost use Rattle.lf_code.specs.Checking.{CheckAnswers, program_of};
+ghost use Rattle.lf_code.specs.Checking.{CheckAnswers, checked_code};
 ghost use Rattle.lf_code.specs.ValidCode.{ValidCode};
 
 use crate::body::{Bodies, Body};
@@ -42,7 +42,7 @@ pub enum CodeFail {
 
 // Whether code with so many texts is valid.
 fn is_valid(alloc: Global, bodies: &[Body], texts: usize) -> Result<bool, OutOfMemory>
-    ensures { IfOk result (λ valid. (list : List Text) → length list ≡ texts → IsTrue valid ↔ ValidCode (program_of bodies.now list)) }
+    ensures { IfOk result (λ valid. (list : List Text) → length list ≡ texts → IsTrue valid ↔ ValidCode (checked_code bodies.now list)) }
 {
     if !code_fits(alloc, bodies, texts)? {
         return Ok(false);

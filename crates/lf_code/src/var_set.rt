@@ -1,5 +1,5 @@
 ghost use Rattle.std.specs.Prelude.{◌≡◌, ◌++◌, ◌∷◌, [], List, ℕ, IfOk, IsTrue, not};
-ghost use Rattle.lf_code.specs.VarSets.{AddsNew, HasVars, is_named};
+ghost use Rattle.lf_code.specs.VarSets.{AddsNew, HasVars, is_known};
 
 use lf_base::OutOfMemory;
 use std::alloc::Global;
@@ -23,7 +23,7 @@ impl VarSet {
 
     // Puts a number in, and answers whether it is new.
     fn add(&mut self, v: u32) -> Result<bool, OutOfMemory>
-        ensures is_new { IfOk result (λ is_new. (known : List ℕ) → HasVars self.old known → is_new ≡ not (is_named v known)) }
+        ensures is_new { IfOk result (λ is_new. (known : List ℕ) → HasVars self.old known → is_new ≡ not (is_known v known)) }
         ensures has { IfOk result (λ _. (known : List ℕ) → HasVars self.old known → HasVars self.new (known ++ v ∷ [])) }
     {
         Ok(self.vars.insert(v)?)

@@ -5,7 +5,7 @@ use Rattle.std.proofs.lemmas.List.{append_assoc, drop_all, take_more}
 use Rattle.std.proofs.Math.Seq.{drop-cons}
 use Rattle.lf_code.specs.declared.var_set.VarSet.{VarSet}
 use Rattle.lf_code.specs.ValidCode.{all_differ, are_apart}
-use Rattle.lf_code.specs.VarSets.{HasVars, all_new, is_named}
+use Rattle.lf_code.specs.VarSets.{HasVars, all_new, is_known}
 
 one_more : (a e b c : Bool) → (not (a || (e || false)) && (b && not c)) ≡ ((not a && b) && not (e || c))
 one_more true e b c = refl
@@ -22,18 +22,18 @@ regrouped false b c d = refl
 same_either_way : (v w : ℕ) → nat_eq v w ≡ nat_eq w v
 same_either_way v w = grind arith
 
-apart_from_more : (vs known : List ℕ) (v : ℕ) → are_apart vs (known ++ v ∷ []) ≡ (are_apart vs known && not (is_named v vs))
+apart_from_more : (vs known : List ℕ) (v : ℕ) → are_apart vs (known ++ v ∷ []) ≡ (are_apart vs known && not (is_known v vs))
 apart_from_more [] known v = refl
 apart_from_more (w ∷ vs) known v =
     ap₂ (λ x y. not x && y) (list_any-append (nat_eq w) known (v ∷ [])) (apart_from_more vs known v)
-    ∙ one_more (is_named w known) (nat_eq w v) (are_apart vs known) (is_named v vs)
-    ∙ ap (λ e. (not (is_named w known) && are_apart vs known) && not (e || is_named v vs)) (same_either_way w v)
+    ∙ one_more (is_known w known) (nat_eq w v) (are_apart vs known) (is_known v vs)
+    ∙ ap (λ e. (not (is_known w known) && are_apart vs known) && not (e || is_known v vs)) (same_either_way w v)
 
 pub new_is : (known vs : List ℕ) → all_new known vs ≡ (are_apart vs known && all_differ vs)
 new_is known [] = refl
 new_is known (v ∷ vs) =
-    ap (λ b. not (is_named v known) && b) (new_is (known ++ v ∷ []) vs ∙ ap (λ b. b && all_differ vs) (apart_from_more vs known v))
-    ∙ regrouped (not (is_named v known)) (are_apart vs known) (not (is_named v vs)) (all_differ vs)
+    ap (λ b. not (is_known v known) && b) (new_is (known ++ v ∷ []) vs ∙ ap (λ b. b && all_differ vs) (apart_from_more vs known v))
+    ∙ regrouped (not (is_known v known)) (are_apart vs known) (not (is_known v vs)) (all_differ vs)
 
 apart_from_none : (vs : List ℕ) → are_apart vs [] ≡ true
 apart_from_none [] = refl
@@ -76,7 +76,7 @@ drop_one : (vars : List ℕ) (i d : ℕ) → i < length vars → drop i vars ≡
 drop_one vars i d within = let e : suc i ≡ i + 1 = omega arith in drop-cons vars i d within ∙ ap (λ j. get_or vars i d ∷ drop j vars) e
 
 pub one_added : (set : VarSet) (known vars : List ℕ) (i d : ℕ) (b : Bool) → i < length vars
-    → ((k : List ℕ) → HasVars set k → b ≡ not (is_named (get_or vars i d) k)) → b ≡ true → HasVars set (known ++ take i vars)
+    → ((k : List ℕ) → HasVars set k → b ≡ not (is_known (get_or vars i d) k)) → b ≡ true → HasVars set (known ++ take i vars)
     → all_new (known ++ take i vars) (drop i vars) ≡ all_new known vars → all_new (known ++ take (i + 1) vars) (drop (i + 1) vars) ≡ all_new known vars
 one_added set known vars i d b within is_new new has so_far =
     ap (λ k. all_new k (drop (i + 1) vars)) (sym (grown known vars i d within))

@@ -96,8 +96,8 @@ none_seen n at d seen =
     let within : at < n = subst (λ l. at < l) (length-replicate n None) (slice_get_within (replicate n None) at (Some d) seen) in
     absurd (cc (sym (get_or-replicate n at None None within) ∙ found_or (replicate n None) at (Some d) None seen))
 
-pub begins : (list : List Placed) (n : ℕ) → length list ≡ n → OperandWalk list (replicate n None) [] (way 0 0 ∷ [])
-begins list n e = record {
+pub walk_begins : (list : List Placed) (n : ℕ) → length list ≡ n → OperandWalk list (replicate n None) [] (way 0 0 ∷ [])
+walk_begins list n e = record {
   sized = length-replicate n None ∙ sym e;
   reached = λ at d seen. absurd (none_seen n at d seen);
   few = λ at d seen. absurd (none_seen n at d seen);

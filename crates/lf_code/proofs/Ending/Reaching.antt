@@ -39,22 +39,22 @@ module _ (p : Program) where
   done (suc n) (Running f fs d) y (go r) o h = done n (code_step p (Running f fs d)) y r o h
 
 -- these instructions stand from one address on, and end before another
-abbrev pub StandsAt : List Placed → ℕ → List Placed → ℕ → Type 0
-StandsAt code a [] b = a ≡ b
-StandsAt code a (i ∷ is) b = (slice_get code a ≡ Some i) × StandsAt code (a + 1) is b
+abbrev pub CodeStandsAt : List Placed → ℕ → List Placed → ℕ → Type 0
+CodeStandsAt code a [] b = a ≡ b
+CodeStandsAt code a (i ∷ is) b = (slice_get code a ≡ Some i) × CodeStandsAt code (a + 1) is b
 
-pub stands_front : (code : List Placed) (a b : ℕ) (xs ys : List Placed) → StandsAt code a (xs ++ ys) b → StandsAt code a xs (a + length xs)
+pub stands_front : (code : List Placed) (a b : ℕ) (xs ys : List Placed) → CodeStandsAt code a (xs ++ ys) b → CodeStandsAt code a xs (a + length xs)
 stands_front code a b [] ys h = omega arith
 stands_front code a b (x ∷ xs) ys h =
     let e : a + 1 + length xs ≡ a + suc (length xs) = omega arith in
-    (h.0, subst (λ n. StandsAt code (a + 1) xs n) e (stands_front code (a + 1) b xs ys h.1))
+    (h.0, subst (λ n. CodeStandsAt code (a + 1) xs n) e (stands_front code (a + 1) b xs ys h.1))
 
-pub stands_back : (code : List Placed) (a b : ℕ) (xs ys : List Placed) → StandsAt code a (xs ++ ys) b → StandsAt code (a + length xs) ys b
-stands_back code a b [] ys h = let e : a ≡ a + 0 = omega arith in subst (λ n. StandsAt code n ys b) e h
+pub stands_back : (code : List Placed) (a b : ℕ) (xs ys : List Placed) → CodeStandsAt code a (xs ++ ys) b → CodeStandsAt code (a + length xs) ys b
+stands_back code a b [] ys h = let e : a ≡ a + 0 = omega arith in subst (λ n. CodeStandsAt code n ys b) e h
 stands_back code a b (x ∷ xs) ys h =
     let e : a + 1 + length xs ≡ a + suc (length xs) = omega arith in
-    subst (λ n. StandsAt code n ys b) e (stands_back code (a + 1) b xs ys h.1)
+    subst (λ n. CodeStandsAt code n ys b) e (stands_back code (a + 1) b xs ys h.1)
 
-pub stands_end : (code : List Placed) (a b : ℕ) (xs : List Placed) → StandsAt code a xs b → a + length xs ≡ b
+pub stands_end : (code : List Placed) (a b : ℕ) (xs : List Placed) → CodeStandsAt code a xs b → a + length xs ≡ b
 stands_end code a b [] h = omega (arith, h)
 stands_end code a b (x ∷ xs) h = omega (arith, stands_end code (a + 1) b xs h.1)

@@ -8,7 +8,7 @@ use Rattle.lf_code.specs.declared.instr.Instr.TheVariants as instr
 use Rattle.lf_code.specs.declared.instr.Prefix.TheVariants.{Neg, Not}
 use Rattle.lf_code.specs.CodeStep.{Program, code_at, on_line, body_end}
 use Rattle.lf_code.specs.Ticked.{Ticked, IsTicked, target_of, instr_of}
-use Rattle.lf_code.proofs.Ending.Reaching.{StandsAt, stands_front, stands_back}
+use Rattle.lf_code.proofs.Ending.Reaching.{CodeStandsAt, stands_front, stands_back}
 use Rattle.lf_parser.specs.declared.name.Name.{Name}
 use Rattle.lf_parser.specs.Plain.{PlainExpr, PlainArgs, PlainStmt, PlainBlock, no_args, arg, no_stmts, stmt}
 use Rattle.lf_parser.specs.Plain as plain
@@ -130,9 +130,9 @@ module _ (code : List Placed) where
           joins (past + 1) ck _ h ((λ a t le. let same : top ≡ a =
               cc in subst (λ n. instr_of (slice_get code n) ≡ Some instr.Tick) same (ap instr_of at_top)), tt))
 
-    if_backs : (none : Bool) (line past b : ℕ) (cy co : List Placed) → StandsAt code past (branches_code none line past cy co) b
-        → ((y : ℕ) → StandsAt code (past + 1) cy y → Backs code (past + 1) cy)
-        → ((y : ℕ) → StandsAt code (past + 1 + length cy + 1) co y → Backs code (past + 1 + length cy + 1) co)
+    if_backs : (none : Bool) (line past b : ℕ) (cy co : List Placed) → CodeStandsAt code past (branches_code none line past cy co) b
+        → ((y : ℕ) → CodeStandsAt code (past + 1) cy y → Backs code (past + 1) cy)
+        → ((y : ℕ) → CodeStandsAt code (past + 1 + length cy + 1) co y → Backs code (past + 1 + length cy + 1) co)
         → Backs code past (branches_code none line past cy co)
     if_backs true line past b cy co h run_first run_other = (ahead past (past + 1 + length cy) (omega arith), run_first b h.1)
     if_backs false line past b cy co h run_first run_other =
@@ -140,7 +140,7 @@ module _ (code : List Placed) where
             (run_other b (stands_back code (past + 1) b cy _ h.1).1)
 
     mutual
-      stmt_backs : (st : PlainStmt) (at b : ℕ) → StandsAt code at (stmt_code s vars st at) b → Backs code at (stmt_code s vars st at)
+      stmt_backs : (st : PlainStmt) (at b : ℕ) → CodeStandsAt code at (stmt_code s vars st at) b → Backs code at (stmt_code s vars st at)
       stmt_backs (plain.Assign line x e) at b h = single e line at (instr.Set (var_number vars x)) refl
       stmt_backs (plain.Store line t k e) at b h =
           let m = at + 1 + length (expr_code s vars t line (at + 1)) in
@@ -180,7 +180,7 @@ module _ (code : List Placed) where
               (map (var_number vars) (capture_names cowns captures)) in
           tick_first at line (on_line line i ∷ []) (here (at + 1) line i refl)
 
-      block_backs : (k : PlainBlock) (at b : ℕ) → StandsAt code at (block_code s vars k at) b → Backs code at (block_code s vars k at)
+      block_backs : (k : PlainBlock) (at b : ℕ) → CodeStandsAt code at (block_code s vars k at) b → Backs code at (block_code s vars k at)
       block_backs no_stmts at b h = tt
       block_backs (stmt st k) at b h =
           let ca = stmt_code s vars st at in

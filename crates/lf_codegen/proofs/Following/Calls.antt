@@ -10,7 +10,7 @@ use Rattle.lf_base.specs.declared.limits.TheConstants.{MOST_FRAMES}
 use Rattle.lf_code.specs.CodeStep.{Frame, Config, Running, Over, Program, act, code_at, vars_at, list_of, vars_of, on_line, body_end, led}
 use Rattle.lf_code.specs.CodeStep.{returned, return_to, at_address, to_address, frames_left, call_by, new_frame}
 use Rattle.lf_code.specs.RunCode.{first_progress}
-use Rattle.lf_code.proofs.Ending.Reaching.{Reaches, stop, go, on, one, StandsAt, stands_front, stands_back}
+use Rattle.lf_code.proofs.Ending.Reaching.{Reaches, stop, go, on, one, CodeStandsAt, stands_front, stands_back}
 use Rattle.lf_codegen.specs.GeneratedCode.{program_of, generated_body, body_code, block_code}
 use Rattle.lf_codegen.specs.Meaning.{Callee, block_meaning, frame_end, calls_within_frames}
 use Rattle.lf_codegen.specs.Numbers.{PlainScript, NamedFrame, named_frames, frame_vars, frame_block, body_vars, body_block}
@@ -20,17 +20,17 @@ use Rattle.lf_base.specs.Operands.{pushed}
 use Rattle.lf_code.specs.Actions.{base_of, enter, leave, no_frame_left, push_value}
 
 
-shifted : (y : Placed) (ys : List Placed) (a b : ℕ) (xs : List Placed) → StandsAt ys a xs b → StandsAt (y ∷ ys) (a + 1) xs (b + 1)
+shifted : (y : Placed) (ys : List Placed) (a b : ℕ) (xs : List Placed) → CodeStandsAt ys a xs b → CodeStandsAt (y ∷ ys) (a + 1) xs (b + 1)
 shifted y ys a b [] h = ap (λ n. n + 1) h
 shifted y ys a b (x ∷ xs) h =
     let e : suc a ≡ a + 1 = omega arith in
     (subst (λ n. slice_get (y ∷ ys) n ≡ Some x) e h.0, shifted y ys (a + 1) b xs h.1)
 
-all_stand : (xs : List Placed) → StandsAt xs 0 xs (length xs)
+all_stand : (xs : List Placed) → CodeStandsAt xs 0 xs (length xs)
 all_stand [] = refl
 all_stand (x ∷ xs) =
     let e : length xs + 1 ≡ suc (length xs) = omega arith in
-    (refl, subst (λ n. StandsAt (x ∷ xs) 1 xs n) e (shifted x xs 0 (length xs) xs (all_stand xs)))
+    (refl, subst (λ n. CodeStandsAt (x ∷ xs) 1 xs n) e (shifted x xs 0 (length xs) xs (all_stand xs)))
 
 module _ (s : PlainScript) where
   abbrev p : Program
@@ -59,17 +59,17 @@ module _ (s : PlainScript) where
   pub vars_are : (body : ℕ) → vars_at p body ≡ length (body_vars s body)
   vars_are body = vars_in (named_frames s.tree) body
 
-  body_stands : (body : ℕ) → StandsAt (code_at p body) 0 (list body) (length (list body))
-  body_stands body = subst (λ c. StandsAt c 0 (list body) (length (list body))) (sym (code_is body)) (all_stand (list body))
+  body_stands : (body : ℕ) → CodeStandsAt (code_at p body) 0 (list body) (length (list body))
+  body_stands body = subst (λ c. CodeStandsAt c 0 (list body) (length (list body))) (sym (code_is body)) (all_stand (list body))
 
   -- the end of the block's code, and the end of the body behind it
   abbrev end_at : ℕ → ℕ
   end_at body = 0 + length (block_list body)
 
-  pub block_stands : (body : ℕ) → StandsAt (code_at p body) 0 (block_list body) (end_at body)
+  pub block_stands : (body : ℕ) → CodeStandsAt (code_at p body) 0 (block_list body) (end_at body)
   block_stands body = stands_front (code_at p body) 0 (length (list body)) (block_list body) body_end (body_stands body)
 
-  end_stands : (body : ℕ) → StandsAt (code_at p body) (end_at body) body_end (length (list body))
+  end_stands : (body : ℕ) → CodeStandsAt (code_at p body) (end_at body) body_end (length (list body))
   end_stands body = stands_back (code_at p body) 0 (length (list body)) (block_list body) body_end (body_stands body)
 
   -- a frame that goes leads to where a return leads

@@ -12,7 +12,7 @@ use Rattle.lf_code.specs.declared.instr.Prefix.TheVariants.{Neg, Not}
 use Rattle.lf_code.specs.Progress.{Progress, Did, Flow, Next, Return, Fails, ◌▷◌, fails, flow_of, does, on_state, to_state, by_truth}
 use Rattle.lf_code.specs.CodeStep.{Frame, Config, Running, Over, Program, code_step, act, acts, act_at, code_at, vars_at, on_line, body_end}
 use Rattle.lf_code.specs.CodeStep.{led, returned, return_to, at_address, to_address, frames_left, no_truth, call_by}
-use Rattle.lf_code.proofs.Ending.Reaching.{Reaches, stop, go, on, one, StandsAt, stands_front, stands_back, stands_end}
+use Rattle.lf_code.proofs.Ending.Reaching.{Reaches, stop, go, on, one, CodeStandsAt, stands_front, stands_back, stands_end}
 use Rattle.lf_parser.specs.Plain.{PlainExpr, PlainArgs, PlainStmt, PlainBlock, no_args, arg, no_stmts, stmt}
 use Rattle.lf_parser.specs.Plain as plain
 use Rattle.lf_parser.specs.declared.name.Name.{Name}
@@ -91,7 +91,7 @@ module _ (s : PlainScript) (vars : List Name) (call : Callee) (calls_within : Ca
   then_to x m b o f h k = both p x (spot m) (spot b) home o f h k
 
   -- an action
-  acted : (line : ℕ) (i : Instr) (action : Progress → Did) (a b : ℕ) (c : Progress) → StandsAt code a (on_line line i ∷ []) b
+  acted : (line : ℕ) (i : Instr) (action : Progress → Did) (a b : ℕ) (c : Progress) → CodeStandsAt code a (on_line line i ∷ []) b
       → act p line i (frame a) fs c ≡ acts line action (frame a) fs c → To (spot a c) b (does line action c)
   acted line i action a b c h e = one p (frame a) fs c line i _ h.0 (e ∙ ap (λ n. led (spot n) home (does line action c)) h.1)
 
@@ -105,20 +105,20 @@ module _ (s : PlainScript) (vars : List Name) (call : Callee) (calls_within : Ca
 
   -- the second operand of `and` and `or`, and the test after it
   second : (line a b : ℕ) (right : List Placed) (f : Progress → Flow) (d : Progress)
-      → StandsAt code a (right ++ on_line line instr.Test ∷ []) b
-      → ((y : ℕ) (e : Progress) → StandsAt code a right y → To (spot a e) y (f e)) → To (spot a d) b (f d ▷ does line test_truth)
+      → CodeStandsAt code a (right ++ on_line line instr.Test ∷ []) b
+      → ((y : ℕ) (e : Progress) → CodeStandsAt code a right y → To (spot a e) y (f e)) → To (spot a d) b (f d ▷ does line test_truth)
   second line a b right f d h k =
       then_to (spot a d) (a + length right) b (f d) (does line test_truth) (k (a + length right) d (stands_front code a b right _ h))
         (λ e. acted line instr.Test test_truth (a + length right) b e (stands_back code a b right _ h) refl)
 
   -- where the code of a joined pair ends
-  joined_end : (a b : ℕ) (right : List Placed) (line : ℕ) → StandsAt code a (right ++ on_line line instr.Test ∷ []) b
+  joined_end : (a b : ℕ) (right : List Placed) (line : ℕ) → CodeStandsAt code a (right ++ on_line line instr.Test ∷ []) b
       → a + length right + 1 ≡ b
   joined_end a b right line h = (stands_back code a b right _ h).1
 
   call_runs : (w : Called) (line : ℕ) (es : PlainArgs) (args_list : List Placed) (f : Progress → Flow) (a b : ℕ) (c : Progress)
-      → StandsAt code a (call_code s vars w line es args_list) b
-      → ((y : ℕ) → StandsAt code a args_list y → To (spot a c) y (f c))
+      → CodeStandsAt code a (call_code s vars w line es args_list) b
+      → ((y : ℕ) → CodeStandsAt code a args_list y → To (spot a c) y (f c))
       → To (spot a c) b (call_meaning s vars base call w line es f c)
   call_runs (Built name) line es args_list f a b c h k =
       let n = a + length args_list in
@@ -136,12 +136,12 @@ module _ (s : PlainScript) (vars : List Name) (call : Callee) (calls_within : Ca
 
   -- the code of an expression does what the expression means
   abbrev Ran : PlainExpr → Type 0
-  Ran e = (line a b : ℕ) (c : Progress) → StandsAt code a (expr_code s vars e line a) b
+  Ran e = (line a b : ℕ) (c : Progress) → CodeStandsAt code a (expr_code s vars e line a) b
       → To (spot a c) b (expr_meaning s vars base call e line c)
 
   -- one expression, and an action
   single_runs : (e : PlainExpr) → Ran e → (line : ℕ) (i : Instr) (action : Progress → Did) (a b : ℕ) (c : Progress)
-      → StandsAt code a (expr_code s vars e line a ++ on_line line i ∷ []) b
+      → CodeStandsAt code a (expr_code s vars e line a ++ on_line line i ∷ []) b
       → ((n : ℕ) (d : Progress) → act p line i (frame n) fs d ≡ acts line action (frame n) fs d)
       → To (spot a c) b (expr_meaning s vars base call e line c ▷ does line action)
   single_runs e run line i action a b c h same =
@@ -152,7 +152,7 @@ module _ (s : PlainScript) (vars : List Name) (call : Callee) (calls_within : Ca
 
   -- two expressions, and an action
   pair_runs : (l r : PlainExpr) → Ran l → Ran r → (line : ℕ) (i : Instr) (action : Progress → Did) (a b : ℕ) (c : Progress)
-      → StandsAt code a (expr_code s vars l line a
+      → CodeStandsAt code a (expr_code s vars l line a
           ++ (expr_code s vars r line (a + length (expr_code s vars l line a)) ++ on_line line i ∷ [])) b
       → ((n : ℕ) (d : Progress) → act p line i (frame n) fs d ≡ acts line action (frame n) fs d)
       → To (spot a c) b ((expr_meaning s vars base call l line c ▷ expr_meaning s vars base call r line) ▷ does line action)
@@ -169,7 +169,7 @@ module _ (s : PlainScript) (vars : List Name) (call : Callee) (calls_within : Ca
         (λ d. acted line i action n b d (stands_back code m b cr _ behind) (same n d))
 
   -- `and`, and `or`
-  and_runs : (l r : PlainExpr) → Ran l → Ran r → (line a b : ℕ) (c : Progress) → StandsAt code a (expr_code s vars (plain.And l r) line a) b
+  and_runs : (l r : PlainExpr) → Ran l → Ran r → (line a b : ℕ) (c : Progress) → CodeStandsAt code a (expr_code s vars (plain.And l r) line a) b
       → To (spot a c) b (expr_meaning s vars base call (plain.And l r) line c)
   and_runs l r run_l run_r line a b c h =
       let cl = expr_code s vars l line a in
@@ -187,7 +187,7 @@ module _ (s : PlainScript) (vars : List Name) (call : Callee) (calls_within : Ca
                 (λ y e k. run_r line (m + 1) y e k))
             (moved (spot t d) t b (Next d) at_end stop)))
 
-  or_runs : (l r : PlainExpr) → Ran l → Ran r → (line a b : ℕ) (c : Progress) → StandsAt code a (expr_code s vars (plain.Or l r) line a) b
+  or_runs : (l r : PlainExpr) → Ran l → Ran r → (line a b : ℕ) (c : Progress) → CodeStandsAt code a (expr_code s vars (plain.Or l r) line a) b
       → To (spot a c) b (expr_meaning s vars base call (plain.Or l r) line c)
   or_runs l r run_l run_r line a b c h =
       let cl = expr_code s vars l line a in
@@ -206,7 +206,7 @@ module _ (s : PlainScript) (vars : List Name) (call : Callee) (calls_within : Ca
                 (λ y e k. run_r line (m + 1) y e k))))
 
   mutual
-    pub expr_runs : (e : PlainExpr) (line a b : ℕ) (c : Progress) → StandsAt code a (expr_code s vars e line a) b
+    pub expr_runs : (e : PlainExpr) (line a b : ℕ) (c : Progress) → CodeStandsAt code a (expr_code s vars e line a) b
         → To (spot a c) b (expr_meaning s vars base call e line c)
     expr_runs plain.Nothing line a b c h = acted line instr.None (push_value value.None) a b c h refl
     expr_runs plain.Yes line a b c h = acted line (instr.Bool true) (push_value (value.Bool true)) a b c h refl
@@ -234,7 +234,7 @@ module _ (s : PlainScript) (vars : List Name) (call : Callee) (calls_within : Ca
         call_runs (called_of s x.id) line es (args_code s vars es line a) (args_meaning s vars base call es line) a b c h
         (λ y k. args_runs es line a y c k)
 
-    args_runs : (es : PlainArgs) (line a b : ℕ) (c : Progress) → StandsAt code a (args_code s vars es line a) b
+    args_runs : (es : PlainArgs) (line a b : ℕ) (c : Progress) → CodeStandsAt code a (args_code s vars es line a) b
         → To (spot a c) b (args_meaning s vars base call es line c)
     args_runs no_args line a b c h = moved (spot a c) a b (Next c) h stop
     args_runs (arg e es) line a b c h =
@@ -245,13 +245,13 @@ module _ (s : PlainScript) (vars : List Name) (call : Callee) (calls_within : Ca
 
   -- a tick, and an expression
   begun : (e : PlainExpr) (line a b : ℕ) (c : Progress) → slice_get code a ≡ Some (on_line line instr.Tick)
-      → StandsAt code (a + 1) (expr_code s vars e line (a + 1)) b
+      → CodeStandsAt code (a + 1) (expr_code s vars e line (a + 1)) b
       → To (spot a c) b (does line tick c ▷ expr_meaning s vars base call e line)
   begun e line a b c at h = ticked line a b (expr_meaning s vars base call e line) c at (λ d. expr_runs e line (a + 1) b d h)
 
   -- a tick, an expression, and an action
   begun_single : (e : PlainExpr) (line : ℕ) (i : Instr) (action : Progress → Did) (a b : ℕ) (c : Progress)
-      → StandsAt code a (on_line line instr.Tick ∷ (expr_code s vars e line (a + 1) ++ on_line line i ∷ [])) b
+      → CodeStandsAt code a (on_line line instr.Tick ∷ (expr_code s vars e line (a + 1) ++ on_line line i ∷ [])) b
       → ((n : ℕ) (d : Progress) → act p line i (frame n) fs d ≡ acts line action (frame n) fs d)
       → To (spot a c) b ((does line tick c ▷ expr_meaning s vars base call e line) ▷ does line action)
   begun_single e line i action a b c h same =
@@ -265,7 +265,7 @@ module _ (s : PlainScript) (vars : List Name) (call : Callee) (calls_within : Ca
   returns : (x : Config) (m b line : ℕ) (o : Flow) → slice_get code m ≡ Some (on_line line instr.Return) → To x m o → To x b (o ▷ Return)
   returns x m b line o at h = then_to x m b o Return h (λ d. one p (frame m) fs d line instr.Return (home d) at refl)
 
-  store_runs : (t k e : PlainExpr) (line a b : ℕ) (c : Progress) → StandsAt code a (stmt_code s vars (plain.Store line t k e) a) b
+  store_runs : (t k e : PlainExpr) (line a b : ℕ) (c : Progress) → CodeStandsAt code a (stmt_code s vars (plain.Store line t k e) a) b
       → To (spot a c) b (stmt_meaning s vars base call (plain.Store line t k e) c)
   store_runs t k e line a b c h =
       let ct = expr_code s vars t line (a + 1) in
@@ -286,14 +286,14 @@ module _ (s : PlainScript) (vars : List Name) (call : Callee) (calls_within : Ca
 
   -- the branches of an `if`, after its test
   if_runs : (none : Bool) (line past b : ℕ) (cy co : List Placed) (on_yes on_no : Progress → Flow) (d : Progress)
-      → StandsAt code past (branches_code none line past cy co) b
-      → ((y : ℕ) (e : Progress) → StandsAt code (past + 1) cy y → To (spot (past + 1) e) y (on_yes e))
-      → ((y : ℕ) (e : Progress) → StandsAt code (past + 1 + length cy + 1) co y → To (spot (past + 1 + length cy + 1) e) y (on_no e))
+      → CodeStandsAt code past (branches_code none line past cy co) b
+      → ((y : ℕ) (e : Progress) → CodeStandsAt code (past + 1) cy y → To (spot (past + 1) e) y (on_yes e))
+      → ((y : ℕ) (e : Progress) → CodeStandsAt code (past + 1 + length cy + 1) co y → To (spot (past + 1 + length cy + 1) e) y (on_no e))
       → (none ≡ true → (e : Progress) → on_no e ≡ Next e)
       → To (spot past d) b (by_truth (last_truth d) d (fails line Kind) (λ e. on_yes (without_operand e)) (λ e. on_no (without_operand e)))
   if_runs true line past b cy co on_yes on_no d h run_yes run_no quiet =
       let t = past + 1 + length cy in
-      let stands : StandsAt code (past + 1) cy b = h.1 in
+      let stands : CodeStandsAt code (past + 1) cy b = h.1 in
       let at_end : t ≡ b = stands_end code (past + 1) b cy stands in
       on p (one p (frame past) fs d line (instr.Unless t) _ h.0 refl)
         (truths p (last_truth d) d (no_truth line) (λ e. spot (past + 1) (without_operand e)) (λ e. spot t (without_operand e))
@@ -361,10 +361,10 @@ module _ (s : PlainScript) (vars : List Name) (call : Callee) (calls_within : Ca
 
   -- the code of a block does what the block means
   abbrev RanBlock : PlainBlock → Type 0
-  RanBlock k = (a b : ℕ) (c : Progress) → StandsAt code a (block_code s vars k a) b → To (spot a c) b (block_meaning s vars base call k c)
+  RanBlock k = (a b : ℕ) (c : Progress) → CodeStandsAt code a (block_code s vars k a) b → To (spot a c) b (block_meaning s vars base call k c)
 
   if_statement : (e : PlainExpr) (first other : PlainBlock) → RanBlock first → RanBlock other → (line a b : ℕ) (c : Progress)
-      → StandsAt code a (stmt_code s vars (plain.If line e first other) a) b
+      → CodeStandsAt code a (stmt_code s vars (plain.If line e first other) a) b
       → To (spot a c) b (stmt_meaning s vars base call (plain.If line e first other) c)
   if_statement e first other run_first run_other line a b c h =
       let ce = expr_code s vars e line (a + 1) in
@@ -378,14 +378,14 @@ module _ (s : PlainScript) (vars : List Name) (call : Callee) (calls_within : Ca
           (λ y f k. run_first (past + 1) y f k) (λ y f k. run_other (past + 1 + length cy + 1) y f k) (empty_block other))
 
   while_statement : (e : PlainExpr) (k : PlainBlock) → RanBlock k → (line a b : ℕ) (c : Progress)
-      → StandsAt code a (stmt_code s vars (plain.While line e k) a) b
+      → CodeStandsAt code a (stmt_code s vars (plain.While line e k) a) b
       → To (spot a c) b (stmt_meaning s vars base call (plain.While line e k) c)
   while_statement e k run line a b c h =
       let ce = expr_code s vars e line (a + 1 + 1) in
       let past = a + 1 + 1 + length ce in
       let ck = block_code s vars k (past + 1) in
       let last = past + 1 + length ck in
-      let test_at : StandsAt code (a + 1 + 1) (ce ++ round_code line (a + 1) past ck) b = h.1.1 in
+      let test_at : CodeStandsAt code (a + 1 + 1) (ce ++ round_code line (a + 1) past ck) b = h.1.1 in
       let behind = stands_back code (a + 1 + 1) b ce _ test_at in
       let jump_at = stands_back code (past + 1) b ck _ behind.1 in
       let at_end : last + 1 ≡ b = jump_at.1 in
@@ -398,7 +398,7 @@ module _ (s : PlainScript) (vars : List Name) (call : Callee) (calls_within : Ca
           (suc d.ticks) d (omega arith))
 
   mutual
-    pub statement_runs : (st : PlainStmt) (a b : ℕ) (c : Progress) → StandsAt code a (stmt_code s vars st a) b
+    pub statement_runs : (st : PlainStmt) (a b : ℕ) (c : Progress) → CodeStandsAt code a (stmt_code s vars st a) b
         → To (spot a c) b (stmt_meaning s vars base call st c)
     statement_runs (plain.Assign line x e) a b c h =
         begun_single e line (instr.Set (var_number vars x)) (to_state (put_down (base + var_number vars x))) a b c h (λ n d. refl)
@@ -426,7 +426,7 @@ module _ (s : PlainScript) (vars : List Name) (call : Callee) (calls_within : Ca
             (spawns_one number (slots_of s vars base call (cown_names cowns)) (slots_of s vars base call (capture_names cowns captures)))
             (a + 1) b d h.1 refl)
 
-    pub block_runs : (k : PlainBlock) (a b : ℕ) (c : Progress) → StandsAt code a (block_code s vars k a) b
+    pub block_runs : (k : PlainBlock) (a b : ℕ) (c : Progress) → CodeStandsAt code a (block_code s vars k a) b
         → To (spot a c) b (block_meaning s vars base call k c)
     block_runs no_stmts a b c h = moved (spot a c) a b (Next c) h stop
     block_runs (stmt st k) a b c h =
