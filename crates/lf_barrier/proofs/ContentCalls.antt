@@ -21,7 +21,7 @@ use Rattle.lf_base.specs.PlainState.{State}
 use Rattle.lf_base.specs.WalkCounts.{counted}
 use Rattle.lf_base.proofs.NameLemmas.SameNames.{same_name_is, same_name_itself}
 use Rattle.lf_barrier.specs.ContentWrites.{IsContentWrite}
-use Rattle.lf_barrier.proofs.FieldLoops.{length_counts}
+use Rattle.lf_barrier.proofs.MovingEdges.FieldLoops.{length_counts}
 use Rattle.lf_domain.specs.Counts.{Counts, CountsOf, IsDomain}
 use Rattle.lf_domain.specs.OneEdge.{MayCountOwner, MayUncountOwner, OnlyBridges}
 use Rattle.lf_domain.proofs.CountedEdges.{same_counts}

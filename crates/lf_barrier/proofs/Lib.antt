@@ -1,12 +1,5 @@
-pub mod FieldLoops
-pub mod GivenRow
-pub mod RowLoops
-pub mod InsideWrite
-pub mod RoomHere
+pub mod MovingEdges
+pub mod FieldWrites
 pub mod ContentCalls
-pub mod SurveySteps
-pub mod SurveyRows
-pub mod OwnedRegions
-pub mod OwnedBelow
-pub mod JudgedSurvey
-pub mod PlanRoom
+pub mod Surveys
+pub mod Descents

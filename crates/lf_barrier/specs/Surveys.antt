@@ -1,5 +1,6 @@
 -- What the visited objects show of a write into a region: what moves, and which bridges are touched.
-use Rattle.std.specs.Prelude.{Bool, List, None, Option, Some, [], cond, count_by, false, flat_map, not, true, ℕ, ◌&&◌, ◌++◌, ◌<◌, ◌||◌, ◌∷◌, ◌≡◌, ◌≤◌, ◌⊎◌}
+use Rattle.std.specs.Prelude.{Bool, List, None, Option, Some, [], cond, count_by, false, flat_map, not, true}
+use Rattle.std.specs.Prelude.{ℕ, ◌&&◌, ◌++◌, ◌<◌, ◌||◌, ◌∷◌, ◌≡◌, ◌≤◌, ◌⊎◌}
 use Rattle.std.specs.List.{list_any}
 use Rattle.lf_base.specs.declared.ids.ObjId.{ObjId}
 use Rattle.lf_base.specs.declared.values.Owner.{Owner}
@@ -16,8 +17,8 @@ use Rattle.lf_regions.specs.Regions.{owned_of}
 use Rattle.lf_barrier.specs.declared.survey.Survey.{Survey}
 
 -- the names with one more, last, where it isn't there
-abbrev pub with_name : List ObjId → ObjId → List ObjId
-with_name os o = cond (has_name os o) os (os ++ o ∷ [])
+abbrev pub names_with : List ObjId → ObjId → List ObjId
+names_with os o = cond (has_name os o) os (os ++ o ∷ [])
 
 -- object o of that owner is the bridge of a region other than home
 abbrev pub is_other_bridge : ObjId → ObjId → Option Owner → Bool
@@ -42,7 +43,8 @@ pub record IsSurvey (rows : List CountedRow) (regions : List Region) (home : Obj
     (survey : Survey) : Type 0 where
   pub moves : (o : ObjId) → has_name (survey.moved).keys o ≡ list_any (λ p. is_local_at (owner_at rows p) && same_name p o) seen
   pub differ : Differ same_name (survey.moved).keys
-  pub touches : (b : ObjId) → has_name (survey.touched).keys b ≡ list_any (λ p. is_other_bridge home p (owner_at rows p) && same_name p b) seen
+  pub touches : (b : ObjId) → has_name (survey.touched).keys b
+      ≡ list_any (λ p. is_other_bridge home p (owner_at rows p) && same_name p b) seen
   pub is_inside : survey.inside ≡ list_any (λ p. is_inside_other home p (owner_at rows p)) seen
   pub once : survey.second ≡ false → (b : ObjId) → is_other_bridge home b (owner_at rows b) ≡ true
       → (visits_of seen b ≤ 1) × (0 < visits_of seen b → is_owned_besides regions old b ≡ false)
@@ -52,9 +54,9 @@ pub record IsSurvey (rows : List CountedRow) (regions : List Region) (home : Obj
 -- what a visit of one object makes of a survey
 pub record Visits (rows : List CountedRow) (regions : List Region) (home : ObjId) (old : Option ObjId) (o : ObjId)
     (before after : Survey) : Type 0 where
-  pub moved : (after.moved).keys ≡ cond (is_local_at (owner_at rows o)) (with_name (before.moved).keys o) (before.moved).keys
+  pub moved : (after.moved).keys ≡ cond (is_local_at (owner_at rows o)) (names_with (before.moved).keys o) (before.moved).keys
   pub touched : (after.touched).keys
-      ≡ cond (is_other_bridge home o (owner_at rows o)) (with_name (before.touched).keys o) (before.touched).keys
+      ≡ cond (is_other_bridge home o (owner_at rows o)) (names_with (before.touched).keys o) (before.touched).keys
   pub is_inside : after.inside ≡ (before.inside || is_inside_other home o (owner_at rows o))
   pub is_second : after.second ≡ (before.second || (is_other_bridge home o (owner_at rows o)
       && (has_name (before.touched).keys o || is_owned_besides regions old o)))

@@ -9,7 +9,7 @@ ghost use Rattle.lf_base.specs.Names.{same_name, targets_of_value};
 ghost use Rattle.lf_base.specs.Owners.{has_name};
 ghost use Rattle.lf_base.specs.PlainState.{State};
 ghost use Rattle.lf_barrier.specs.Descents.{IsBelow, Looked, is_child, region_targets};
-ghost use Rattle.lf_barrier.specs.Surveys.{is_other_bridge, with_name};
+ghost use Rattle.lf_barrier.specs.Surveys.{is_other_bridge, names_with};
 ghost use Rattle.lf_domain.specs.Counts.{IsDomain};
 ghost use Rattle.lf_graph.specs.StoredRows.{HasRow, fields_at, owner_at};
 ghost use Rattle.lf_regions.specs.declared.region.Region.{Region};
@@ -62,7 +62,8 @@ fn look_into_region<S: Store, L: Ledger>(
     steps: &mut Steps<L>,
 ) -> Result<bool, OutOfMemory>
     requires domain { (regions : List Region) × ((s : State) × IsDomain (S.rows store.now) regions s) }
-    ensures { IfOk result (λ found. Looked (S.rows store.now) r home (region_targets (S.rows store.now) r) visited.old.keys visited.new.keys found) }
+    ensures { IfOk result (λ found. Looked (S.rows store.now) r home (region_targets (S.rows store.now) r)
+        visited.old.keys visited.new.keys found) }
 {
     let mut next = store.first(Owner::In(r), steps);
     for _turn in 0..usize::MAX {
@@ -88,7 +89,8 @@ fn look_into_row<S: Store, L: Ledger>(
 ) -> Result<bool, OutOfMemory>
     requires domain { (regions : List Region) × ((s : State) × IsDomain (S.rows store.now) regions s) }
     requires there { HasRow (S.rows store.now) p }
-    ensures { IfOk result (λ found. Looked (S.rows store.now) r home (field_targets (fields_at (S.rows store.now) p)) visited.old.keys visited.new.keys found) }
+    ensures { IfOk result (λ found. Looked (S.rows store.now) r home (field_targets (fields_at (S.rows store.now) p))
+        visited.old.keys visited.new.keys found) }
 {
     let width = store.width(p, steps);
     let mut last = None;
@@ -135,7 +137,7 @@ fn look_at<S: Store, L: Ledger>(
 ) -> Result<bool, OutOfMemory>
     ensures found { IfOk result (λ found. found ≡ (is_child r o (owner_at (S.rows store.now) o) && same_name o home)) }
     ensures visited { OnOk result (visited.new.keys
-        ≡ cond (is_child r o (owner_at (S.rows store.now) o) && not (same_name o home)) (with_name visited.old.keys o) visited.old.keys) }
+        ≡ cond (is_child r o (owner_at (S.rows store.now) o) && not (same_name o home)) (names_with visited.old.keys o) visited.old.keys) }
 {
     let Some(owner) = store.owner(o, steps) else {
         return Ok(false);
@@ -157,7 +159,7 @@ fn look_at_row(
 ) -> Result<bool, OutOfMemory>
     ensures found { IfOk result (λ found. found ≡ (is_child r o (Some (In q)) && same_name o home)) }
     ensures visited { OnOk result (visited.new.keys
-        ≡ cond (is_child r o (Some (In q)) && not (same_name o home)) (with_name visited.old.keys o) visited.old.keys) }
+        ≡ cond (is_child r o (Some (In q)) && not (same_name o home)) (names_with visited.old.keys o) visited.old.keys) }
 {
     if !q.is_same(o) || r.is_same(o) {
         return Ok(false);

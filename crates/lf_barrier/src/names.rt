@@ -1,6 +1,6 @@
 ghost use Rattle.std.specs.Prelude.{◌≡◌, [], IfOk, OnOk, not, slice_get};
 ghost use Rattle.lf_base.specs.Owners.{has_name};
-ghost use Rattle.lf_barrier.specs.Surveys.{with_name};
+ghost use Rattle.lf_barrier.specs.Surveys.{names_with};
 
 use indexmap::IndexSet;
 use lf_base::{ObjId, OutOfMemory};
@@ -16,7 +16,7 @@ pub fn no_names(alloc: Global) -> IndexSet<ObjId>
 /// Puts a name last among names, where it isn't there yet, and tells whether it is new.
 pub fn add(names: &mut IndexSet<ObjId>, o: ObjId) -> Result<bool, OutOfMemory>
     ensures is_new { IfOk result (λ is_new. is_new ≡ not (has_name names.old.keys o)) }
-    ensures added { OnOk result (names.new.keys ≡ with_name names.old.keys o) }
+    ensures added { OnOk result (names.new.keys ≡ names_with names.old.keys o) }
 {
     Ok(names.insert(o)?)
 }

@@ -19,5 +19,11 @@ impl Model for WritePlan {
 
     ghost Value = { Planned };
 
-    ghost view = { λ plan. record { target = plan.target; key = plan.key; value = plan.value; home = plan.home; moved = (plan.moved).keys } };
+    ghost view = { λ plan. record {
+      target = plan.target;
+      key = plan.key;
+      value = plan.value;
+      home = plan.home;
+      moved = (plan.moved).keys;
+    } };
 }

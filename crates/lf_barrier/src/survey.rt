@@ -9,7 +9,8 @@ ghost use Rattle.lf_base.specs.Names.{targets_of_value};
 ghost use Rattle.lf_base.specs.Owners.{has_name, names};
 ghost use Rattle.lf_base.specs.PlainState.{State};
 ghost use Rattle.lf_base.specs.TouchedEdges.{is_inside_other};
-ghost use Rattle.lf_barrier.specs.Surveys.{Extends, IsSurvey, Visits, is_other_bridge, is_owned_besides, is_that, objects_touched, with_name};
+ghost use Rattle.lf_barrier.specs.Surveys.{Extends, IsSurvey, Visits, is_other_bridge, is_owned_besides, is_that};
+ghost use Rattle.lf_barrier.specs.Surveys.{names_with, objects_touched};
 ghost use Rattle.lf_domain.specs.Counts.{IsDomain};
 ghost use Rattle.lf_graph.specs.StoredRows.{HasRow, fields_at};
 ghost use Rattle.lf_regions.specs.Regions.{has_region};
@@ -78,7 +79,7 @@ impl Survey {
         requires { has_region regions.now r ≡ true }
         ensures moved { OnOk result (self.new.moved.keys ≡ self.old.moved.keys) }
         ensures touched { OnOk result (self.new.touched.keys
-            ≡ cond (is_other_bridge place.home o (Some (In r))) (with_name self.old.touched.keys o) self.old.touched.keys) }
+            ≡ cond (is_other_bridge place.home o (Some (In r))) (names_with self.old.touched.keys o) self.old.touched.keys) }
         ensures inside { OnOk result (self.new.inside ≡ (self.old.inside || is_inside_other place.home o (Some (In r)))) }
         ensures second { OnOk result (self.new.second ≡ (self.old.second || (is_other_bridge place.home o (Some (In r))
             && (has_name self.old.touched.keys o || is_owned_besides regions.now place.old o)))) }

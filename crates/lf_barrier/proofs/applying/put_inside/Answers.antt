@@ -4,9 +4,9 @@ use Rattle.lf_base.specs.EdgeLists.{near_edges}
 use Rattle.lf_base.specs.TouchedEdges.{edges_from}
 use Rattle.lf_graph.specs.Room.{room_for_field}
 use Rattle.lf_domain.proofs.StoreEdges.{field_told}
-use Rattle.lf_barrier.proofs.FieldLoops.{row_there}
-use Rattle.lf_barrier.proofs.InsideWrite.{all_counted, few_steps, left, may_count_moved, may_count_new, may_give, may_uncount_moved, may_uncount_old, now, put, rest, room_stays}
-use Rattle.lf_barrier.proofs.RoomHere.{room_here}
+use Rattle.lf_barrier.proofs.MovingEdges.FieldLoops.{has_row_by_owner}
+use Rattle.lf_barrier.proofs.FieldWrites.InsideWrite.{all_counted, few_steps, left, may_count_moved, may_count_new, may_give, may_uncount_moved, may_uncount_old, now, put, rest, room_stays}
+use Rattle.lf_barrier.proofs.FieldWrites.RoomHere.{room_here}
 use Rattle.lf_barrier.proofs.applying.put_inside.Goals as goal
 
 pub set_field-old-requires-clause-there : goal.set_field-old-requires-clause-there
@@ -22,7 +22,7 @@ set_field-old-requires-clause-there g c =
     let v = c.args.v in
     let home = c.args.home in
     let ms = c.args.moved.now in
-    row_there rows s.rows x (In home) ((d.counts).store).rows w.target
+    has_row_by_owner rows s.rows x (In home) ((d.counts).store).rows w.target
 
 pub set_field-old-requires-clause-room : goal.set_field-old-requires-clause-room
 set_field-old-requires-clause-room g c =

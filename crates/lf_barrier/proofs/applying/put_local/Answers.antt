@@ -6,7 +6,7 @@ use Rattle.lf_base.specs.WriteResult.{write_fields, write_result}
 use Rattle.lf_domain.proofs.LocalWrite.{near, old_may_go, room_stays, row_there, written}
 use Rattle.lf_domain.proofs.StateEdges.{may_count}
 use Rattle.lf_domain.proofs.StoreEdges.{field_told}
-use Rattle.lf_barrier.proofs.RoomHere.{room_here}
+use Rattle.lf_barrier.proofs.FieldWrites.RoomHere.{room_here}
 use Rattle.lf_barrier.proofs.applying.put_local.Goals as goal
 
 pub count_borrow-requires-clause-may : goal.count_borrow-requires-clause-may

@@ -1,6 +1,6 @@
 use Rattle.std.proofs.Common.{subst, sym, ◌∙◌}
 use Rattle.lf_barrier.specs.Descents.{Looked, region_targets}
-use Rattle.lf_barrier.proofs.OwnedBelow.{descending_begins, descending_on, home_found, home_not_found, not_below}
+use Rattle.lf_barrier.proofs.Descents.OwnedBelow.{descending_begins, descending_on, home_found, home_not_found, not_below}
 use Rattle.lf_barrier.proofs.descent.is_below.Goals as goal
 
 pub returns-then-not-is_owned : goal.returns-then-not-is_owned

@@ -1,4 +1,4 @@
-use Rattle.lf_barrier.proofs.OwnedBelow.{Descending}
+use Rattle.lf_barrier.proofs.Descents.OwnedBelow.{Descending}
 use Rattle.lf_barrier.proofs.descent.is_below.Given as goal
 
 abbrev pub invariant-loop-at : goal.invariant-loop-at

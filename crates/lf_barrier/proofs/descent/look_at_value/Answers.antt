@@ -1,6 +1,6 @@
 use Rattle.std.proofs.Common.{subst}
 use Rattle.lf_barrier.specs.Descents.{Looked, Passed}
-use Rattle.lf_barrier.proofs.OwnedRegions.{looked_one, passed_none}
+use Rattle.lf_barrier.proofs.Descents.OwnedRegions.{looked_one, passed_none}
 use Rattle.lf_barrier.proofs.descent.look_at_value.Goals as goal
 
 pub returns-in_ok-found-in-Some : goal.returns-in_ok-found-in-Some

@@ -2,7 +2,7 @@ use Rattle.std.proofs.Common.{subst}
 use Rattle.lf_base.specs.Edges.{field_targets}
 use Rattle.lf_graph.specs.StoredRows.{fields_at}
 use Rattle.lf_barrier.specs.Descents.{Looked}
-use Rattle.lf_barrier.proofs.OwnedRegions.{look_found, look_row_there, region_look_begins, region_look_on, region_looked}
+use Rattle.lf_barrier.proofs.Descents.OwnedRegions.{look_found, look_row_there, region_look_begins, region_look_on, region_looked}
 use Rattle.lf_barrier.proofs.descent.look_into_region.Goals as goal
 
 pub loop-turn-init : goal.loop-turn-init

@@ -1,4 +1,4 @@
-use Rattle.lf_barrier.proofs.OwnedRegions.{RegionLooked}
+use Rattle.lf_barrier.proofs.Descents.OwnedRegions.{RegionLooked}
 use Rattle.lf_barrier.proofs.descent.look_into_region.Given as goal
 
 abbrev pub invariant-loop-turn : goal.invariant-loop-turn

@@ -2,9 +2,9 @@ use Rattle.std.proofs.Common.{arith, subst, sym, ◌∙◌}
 use Rattle.lf_base.specs.Names.{targets_of_value}
 use Rattle.lf_graph.specs.StoredRows.{fields_at}
 use Rattle.lf_barrier.specs.Descents.{Looked}
-use Rattle.lf_barrier.proofs.FieldLoops.{walk_not_over}
-use Rattle.lf_barrier.proofs.OwnedRegions.{row_look_begins, row_look_found, row_look_on, row_looked}
-use Rattle.lf_barrier.proofs.SurveyRows.{stored_keys}
+use Rattle.lf_barrier.proofs.MovingEdges.FieldLoops.{walk_not_over}
+use Rattle.lf_barrier.proofs.Descents.OwnedRegions.{row_look_begins, row_look_found, row_look_on, row_looked}
+use Rattle.lf_barrier.proofs.Surveys.SurveyRows.{stored_keys}
 use Rattle.lf_barrier.proofs.descent.look_into_row.Goals as goal
 
 pub loop-turn-init : goal.loop-turn-init

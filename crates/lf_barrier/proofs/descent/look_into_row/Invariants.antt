@@ -1,5 +1,5 @@
 use Rattle.lf_graph.specs.StoredRows.{fields_at}
-use Rattle.lf_barrier.proofs.OwnedRegions.{RowLooked}
+use Rattle.lf_barrier.proofs.Descents.OwnedRegions.{RowLooked}
 use Rattle.lf_barrier.proofs.descent.look_into_row.Given as goal
 
 abbrev pub invariant-loop-turn : goal.invariant-loop-turn

@@ -2,14 +2,14 @@ use Rattle.std.proofs.Common.{ap, arith, length, sym, ◌∙◌}
 use Rattle.lf_base.specs.declared.values.Owner.TheVariants.{In}
 use Rattle.lf_graph.specs.StoredRows.{fields_at}
 use Rattle.lf_base.specs.FieldOrder.{field_after}
-use Rattle.lf_barrier.proofs.FieldLoops.{fields_told, row_there, all_counted, counting_begins, counting_on, value_may_come, walk_not_over}
+use Rattle.lf_barrier.proofs.MovingEdges.FieldLoops.{fields_told, has_row_by_owner, all_counted, counting_begins, counting_on, value_may_come, walk_not_over}
 use Rattle.lf_barrier.proofs.moves.count_row.Goals as goal
 
 pub width-width-requires : goal.width-width-requires
 width-width-requires g c =
     let h = c.requires.may in
     let m = h.1.1 in
-    record { there = row_there (g.S.Store.rows c.args.store.now) h.0 c.args.p (In c.args.home) ((m.counts).store).rows m.inside }
+    record { there = has_row_by_owner (g.S.Store.rows c.args.store.now) h.0 c.args.p (In c.args.home) ((m.counts).store).rows m.inside }
 
 pub loop-turn-init : goal.loop-turn-init
 loop-turn-init g c =
@@ -17,7 +17,7 @@ loop-turn-init g c =
     let m = h.1.1 in
     let rows = g.S.Store.rows c.args.store.now in
     record {
-      so_far = counting_begins rows c.args.regions.now c.args.p c.args.home (row_there rows h.0 c.args.p (In c.args.home) ((m.counts).store).rows m.inside);
+      so_far = counting_begins rows c.args.regions.now c.args.p c.args.home (has_row_by_owner rows h.0 c.args.p (In c.args.home) ((m.counts).store).rows m.inside);
       steps = omega (arith, c.width-width.ensures.step);
     }
 

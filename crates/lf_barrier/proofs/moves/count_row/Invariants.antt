@@ -1,5 +1,5 @@
 use Rattle.std.proofs.Common.{◌*◌, ◌+◌, ◌≤◌}
-use Rattle.lf_barrier.proofs.FieldLoops.{Counting}
+use Rattle.lf_barrier.proofs.MovingEdges.FieldLoops.{Counting}
 use Rattle.lf_barrier.proofs.moves.count_row.Given as goal
 
 abbrev pub invariant-loop-turn : goal.invariant-loop-turn

@@ -2,7 +2,7 @@ use Rattle.std.proofs.Common.{arith, drop, length, refl, slice_index_or, ◌+◌
 use Rattle.std.proofs.lemmas.List.{drop_more}
 use Rattle.std.proofs.lemmas.List.Sums.{sum_by-drop_more}
 use Rattle.lf_barrier.specs.MovingEdges.{fields_in}
-use Rattle.lf_barrier.proofs.RowLoops.{drop_none, name_at, no_name, rest_counted, row_may_come, rows_counted}
+use Rattle.lf_barrier.proofs.MovingEdges.RowLoops.{drop_none, name_at_is_there, no_name, rest_counted, row_may_come, rows_counted}
 use Rattle.lf_barrier.proofs.moves.count_rows.Goals as goal
 
 pub loop-o-init : goal.loop-o-init
@@ -21,7 +21,7 @@ count_row-requires-clause-may g c κs within =
       (
         so.edges,
         row_may_come (g.S.Store.rows c.args.store.now) (g.S.Store.rows c.loop-o.store) c.args.regions.now c.loop-o.regions h.0 h.1.0 (drop i os) os (slice_index_or os i no_name) (drop (i + 1) os) c.args.home
-            (drop_more os i no_name c.loop-o-test.true) h.1.1 so (name_at os i no_name c.loop-o-test.true),
+            (drop_more os i no_name c.loop-o-test.true) h.1.1 so (name_at_is_there os i no_name c.loop-o-test.true),
       ),
     )
 
@@ -34,7 +34,7 @@ loop-o-preserved g c =
     let o = slice_index_or os i no_name in
     let rest = drop (i + 1) os in
     let is = drop_more os i no_name c.loop-o-test.true in
-    let there = name_at os i no_name c.loop-o-test.true in
+    let there = name_at_is_there os i no_name c.loop-o-test.true in
     record {
       so_far = λ of es m. let so = c.loop-o.invariant.so_far of es m in
           rest_counted rows now c.args.regions.now c.loop-o.regions of es (drop i os) os o rest c.args.home is m so (g.S.Store.rows c.count_row.new.store) c.count_row.new.regions

@@ -3,7 +3,7 @@ use Rattle.std.specs.List.{sum_by}
 use Rattle.lf_base.specs.Edges.{Edge}
 use Rattle.lf_base.specs.PlainState.{Row}
 use Rattle.lf_barrier.specs.MovingEdges.{MayCountRows, fields_in}
-use Rattle.lf_barrier.proofs.RowLoops.{RowsCounted}
+use Rattle.lf_barrier.proofs.MovingEdges.RowLoops.{RowsCounted}
 use Rattle.lf_barrier.proofs.moves.count_rows.Given as goal
 
 abbrev pub invariant-loop-o : goal.invariant-loop-o

@@ -1,4 +1,4 @@
-use Rattle.lf_barrier.proofs.GivenRow.{borrows_fit, given, given_there, home_there}
+use Rattle.lf_barrier.proofs.MovingEdges.GivenRow.{borrows_fit, given, given_there, home_there}
 use Rattle.lf_barrier.proofs.moves.give_row.Goals as goal
 
 pub refs-count-requires : goal.refs-count-requires

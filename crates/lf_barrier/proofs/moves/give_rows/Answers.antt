@@ -3,7 +3,7 @@ use Rattle.std.proofs.lemmas.List.{drop_more}
 use Rattle.std.proofs.lemmas.List.Sums.{sum_by-drop_more}
 use Rattle.lf_base.specs.declared.values.Owner.TheVariants.{In}
 use Rattle.lf_graph.specs.Room.{room_for_row}
-use Rattle.lf_barrier.proofs.RowLoops.{all_given, drop_none, fields_then, no_name, rest_given, row_may_be_given}
+use Rattle.lf_barrier.proofs.MovingEdges.RowLoops.{all_given, drop_none, fields_then, no_name, rest_given, row_may_be_given}
 use Rattle.lf_barrier.proofs.moves.give_rows.Goals as goal
 
 pub loop-o-init : goal.loop-o-init

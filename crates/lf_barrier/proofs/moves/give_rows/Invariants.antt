@@ -7,7 +7,7 @@ use Rattle.lf_base.specs.PlainState.{Row}
 use Rattle.lf_graph.specs.Room.{room_for_row}
 use Rattle.lf_graph.specs.StoredRows.{fields_at}
 use Rattle.lf_barrier.specs.MovingEdges.{MayGiveRows}
-use Rattle.lf_barrier.proofs.RowLoops.{Given}
+use Rattle.lf_barrier.proofs.MovingEdges.RowLoops.{Given}
 use Rattle.lf_barrier.proofs.moves.give_rows.Given as goal
 
 abbrev pub invariant-loop-o : goal.invariant-loop-o

@@ -3,14 +3,14 @@ use Rattle.lf_base.specs.declared.values.Owner.TheVariants.{Local}
 use Rattle.lf_base.specs.Edges.{Field, edges_by, field_targets}
 use Rattle.lf_graph.specs.StoredRows.{fields_at}
 use Rattle.lf_base.specs.FieldOrder.{field_after}
-use Rattle.lf_barrier.proofs.FieldLoops.{fields_told, row_there, uncount_tail, uncounted, uncounting_begins, uncounting_on, value_may_go, walk_not_over}
+use Rattle.lf_barrier.proofs.MovingEdges.FieldLoops.{fields_told, has_row_by_owner, uncount_tail, uncounted, uncounting_begins, uncounting_on, value_may_go, walk_not_over}
 use Rattle.lf_barrier.proofs.moves.uncount_row.Goals as goal
 
 pub width-width-requires : goal.width-width-requires
 width-width-requires g c =
     let h = c.requires.may in
     let m = h.1.1.1 in
-    record { there = row_there (g.S.Store.rows c.args.store.now) h.0 c.args.p Local ((m.counts).store).rows m.local }
+    record { there = has_row_by_owner (g.S.Store.rows c.args.store.now) h.0 c.args.p Local ((m.counts).store).rows m.local }
 
 pub loop-turn-init : goal.loop-turn-init
 loop-turn-init g c =
@@ -18,7 +18,7 @@ loop-turn-init g c =
     let m = h.1.1.1 in
     let rows = g.S.Store.rows c.args.store.now in
     record {
-      so_far = uncounting_begins rows c.args.regions.now c.args.p (row_there rows h.0 c.args.p Local ((m.counts).store).rows m.local);
+      so_far = uncounting_begins rows c.args.regions.now c.args.p (has_row_by_owner rows h.0 c.args.p Local ((m.counts).store).rows m.local);
       room = λ w. omega arith;
       steps = omega (arith, c.width-width.ensures.step);
     }

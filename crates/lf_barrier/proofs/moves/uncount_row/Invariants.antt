@@ -1,6 +1,6 @@
 use Rattle.std.proofs.Common.{◌*◌, ◌+◌, ◌≤◌}
 use Rattle.lf_graph.specs.Room.{LowersNone}
-use Rattle.lf_barrier.proofs.FieldLoops.{Uncounting}
+use Rattle.lf_barrier.proofs.MovingEdges.FieldLoops.{Uncounting}
 use Rattle.lf_barrier.proofs.moves.uncount_row.Given as goal
 
 abbrev pub invariant-loop-turn : goal.invariant-loop-turn

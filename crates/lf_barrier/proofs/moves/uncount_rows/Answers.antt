@@ -5,7 +5,7 @@ use Rattle.lf_base.specs.TouchedEdges.{edges_from}
 use Rattle.lf_domain.specs.Counts.{Counts}
 use Rattle.lf_domain.proofs.CountedEdges.{same_counts}
 use Rattle.lf_barrier.specs.MovingEdges.{fields_in}
-use Rattle.lf_barrier.proofs.RowLoops.{drop_none, name_at, no_name, row_may_go}
+use Rattle.lf_barrier.proofs.MovingEdges.RowLoops.{drop_none, name_at_is_there, no_name, row_may_go}
 use Rattle.lf_barrier.proofs.moves.uncount_rows.Goals as goal
 
 pub loop-o-init : goal.loop-o-init
@@ -31,7 +31,7 @@ uncount_row-requires-clause-may g c κs within =
         edges_from h.0 (o ∷ rest) ++ h.1.1.0,
         (
           edges_from h.0 rest ++ h.1.1.0,
-          row_may_go rows now c.args.regions.now c.loop-o.regions os rest o h.0 h.1.0 h.1.1.0 m (name_at os i no_name c.loop-o-test.true) left,
+          row_may_go rows now c.args.regions.now c.loop-o.regions os rest o h.0 h.1.0 h.1.1.0 m (name_at_is_there os i no_name c.loop-o-test.true) left,
         ),
       ),
     )
@@ -45,14 +45,14 @@ loop-o-preserved g c =
     let o = slice_index_or os i no_name in
     let rest = drop (i + 1) os in
     record {
-      left = λ of es fs m. c.uncount_row.ensures.counted of (edges_from of (o ∷ rest) ++ fs) (edges_from of rest ++ fs) (row_may_go rows now c.args.regions.now c.loop-o.regions os rest o of es fs m (name_at os i no_name c.loop-o-test.true)
+      left = λ of es fs m. c.uncount_row.ensures.counted of (edges_from of (o ∷ rest) ++ fs) (edges_from of rest ++ fs) (row_may_go rows now c.args.regions.now c.loop-o.regions os rest o of es fs m (name_at_is_there os i no_name c.loop-o-test.true)
           (subst (λ l. Counts now c.loop-o.regions of (edges_from of l ++ fs)) (drop_more os i no_name c.loop-o-test.true) (c.loop-o.invariant.left of es fs m)));
       room = λ w. omega (arith, c.loop-o.invariant.room w, c.uncount_row.ensures.room w);
       steps = λ of es fs m. omega (
         arith,
         c.loop-o.invariant.steps of es fs m,
         sum_by-drop_more (λ o. length (fields_in of o)) os i no_name c.loop-o-test.true,
-        c.uncount_row.ensures.steps of (edges_from of (o ∷ rest) ++ fs) (edges_from of rest ++ fs) (row_may_go rows now c.args.regions.now c.loop-o.regions os rest o of es fs m (name_at os i no_name c.loop-o-test.true)
+        c.uncount_row.ensures.steps of (edges_from of (o ∷ rest) ++ fs) (edges_from of rest ++ fs) (row_may_go rows now c.args.regions.now c.loop-o.regions os rest o of es fs m (name_at_is_there os i no_name c.loop-o-test.true)
             (subst (λ l. Counts now c.loop-o.regions of (edges_from of l ++ fs)) (drop_more os i no_name c.loop-o-test.true) (c.loop-o.invariant.left of es fs m))),
       );
     }

@@ -4,7 +4,7 @@ use Rattle.lf_domain.proofs.StoreEdges.{owned_has_row, owner_told}
 use Rattle.lf_base.specs.EdgeLists.{near_edges}
 use Rattle.lf_domain.proofs.CountedEdges.{region_there}
 use Rattle.lf_barrier.specs.Descents.{IsBelow}
-use Rattle.lf_barrier.proofs.JudgedSurvey.{old_told, says_cycle, says_inside, says_none, says_second, touched_other, writes}
+use Rattle.lf_barrier.proofs.Surveys.JudgedSurvey.{old_told, says_cycle, says_inside, says_none, says_second, touched_other, writes}
 use Rattle.lf_barrier.proofs.planning.judge.Goals as goal
 
 pub field-requires : goal.field-requires

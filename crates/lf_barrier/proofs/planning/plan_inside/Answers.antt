@@ -2,7 +2,7 @@ use Rattle.std.proofs.Common.{ap, ◌+◌, ◌∙◌}
 use Rattle.lf_base.specs.declared.values.Owner.TheVariants.{In}
 use Rattle.std.specs.List.{sum_by}
 use Rattle.lf_graph.specs.Room.{room_for_row}
-use Rattle.lf_barrier.proofs.PlanRoom.{moved_there, room_enough}
+use Rattle.lf_barrier.proofs.FieldWrites.PlanRoom.{moved_there, room_enough}
 use Rattle.lf_barrier.proofs.planning.plan_inside.Goals as goal
 
 pub room_for-requires-clause-there : goal.room_for-requires-clause-there

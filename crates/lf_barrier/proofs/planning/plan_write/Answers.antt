@@ -1,5 +1,5 @@
 use Rattle.std.proofs.Common.{Some, ap, sym, ◌∙◌}
-use Rattle.lf_barrier.proofs.PlanRoom.{frozen_row_refused, no_row_refused}
+use Rattle.lf_barrier.proofs.FieldWrites.PlanRoom.{frozen_row_refused, no_row_refused}
 use Rattle.lf_barrier.proofs.planning.plan_write.Goals as goal
 
 pub returns-in_default-clause-answer : goal.returns-in_default-clause-answer

@@ -1,4 +1,4 @@
-use Rattle.lf_barrier.proofs.SurveyRows.{none_surveyed, row_is_there, surveyed, surveying_begins, surveying_on}
+use Rattle.lf_barrier.proofs.Surveys.SurveyRows.{none_surveyed, row_is_there, surveyed, surveying_begins, surveying_on}
 use Rattle.std.proofs.Common.{sym, ◌∙◌}
 use Rattle.lf_barrier.proofs.survey.survey_write.Goals as goal
 

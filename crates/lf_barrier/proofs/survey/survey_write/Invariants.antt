@@ -1,4 +1,4 @@
-use Rattle.lf_barrier.proofs.SurveyRows.{Surveying}
+use Rattle.lf_barrier.proofs.Surveys.SurveyRows.{Surveying}
 use Rattle.lf_barrier.proofs.survey.survey_write.Given as goal
 
 abbrev pub invariant-loop-at : goal.invariant-loop-at

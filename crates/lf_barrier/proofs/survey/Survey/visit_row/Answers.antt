@@ -1,8 +1,8 @@
 use Rattle.std.proofs.Common.{arith, sym, ◌∙◌}
 use Rattle.lf_graph.specs.StoredRows.{fields_at}
-use Rattle.lf_barrier.proofs.FieldLoops.{walk_not_over}
-use Rattle.lf_barrier.proofs.SurveySteps.{row_begins, row_goes_on, row_visited}
-use Rattle.lf_barrier.proofs.SurveyRows.{stored_keys}
+use Rattle.lf_barrier.proofs.MovingEdges.FieldLoops.{walk_not_over}
+use Rattle.lf_barrier.proofs.Surveys.SurveySteps.{row_begins, row_goes_on, row_visited}
+use Rattle.lf_barrier.proofs.Surveys.SurveyRows.{stored_keys}
 use Rattle.lf_barrier.proofs.survey.Survey.visit_row.Goals as goal
 
 pub loop-turn-init : goal.loop-turn-init

@@ -1,5 +1,5 @@
 use Rattle.lf_graph.specs.StoredRows.{fields_at}
-use Rattle.lf_barrier.proofs.SurveySteps.{RowVisited}
+use Rattle.lf_barrier.proofs.Surveys.SurveySteps.{RowVisited}
 use Rattle.lf_barrier.proofs.survey.Survey.visit_row.Given as goal
 
 abbrev pub invariant-loop-turn : goal.invariant-loop-turn

@@ -1,6 +1,6 @@
 use Rattle.std.proofs.Common.{subst}
 use Rattle.lf_barrier.specs.Surveys.{Extends}
-use Rattle.lf_barrier.proofs.SurveySteps.{extends_none, extends_one}
+use Rattle.lf_barrier.proofs.Surveys.SurveySteps.{extends_none, extends_one}
 use Rattle.lf_barrier.proofs.survey.Survey.visit_value.Goals as goal
 
 pub returns-in_ok-visit-in-Some : goal.returns-in_ok-visit-in-Some

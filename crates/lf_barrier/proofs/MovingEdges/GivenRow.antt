@@ -19,7 +19,7 @@ use Rattle.lf_base.specs.WriteResult.{relabel}
 use Rattle.lf_base.proofs.ListLemmas.Tests.{count_like, none_count}
 use Rattle.lf_base.proofs.NameLemmas.SameNames.{same_name_flips, same_name_is, same_name_itself}
 use Rattle.lf_barrier.specs.MovingEdges.{MayGive}
-use Rattle.lf_barrier.proofs.FieldLoops.{row_there}
+use Rattle.lf_barrier.proofs.MovingEdges.FieldLoops.{has_row_by_owner}
 use Rattle.lf_domain.specs.Counts.{Counts}
 use Rattle.lf_domain.proofs.TableEdges.{flag_borrowed, has_borrowed, number_borrowed}
 use Rattle.lf_graph.specs.RowChanges.{moved_last, with_owner}
@@ -75,7 +75,7 @@ module _ (rows : List CountedRow) (regions : List Region) (of : List Row) (es : 
   home_there = ((m.counts).table).regions home ∙ home_bridge
 
   pub given_there : HasRow rows o
-  given_there = row_there rows of o Local ((m.counts).store).rows m.local
+  given_there = has_row_by_owner rows of o Local ((m.counts).store).rows m.local
 
   -- all edges to the row are from slots and local rows
   near_refs : count_by (λ e. is_borrower of e.from && has_name (o ∷ []) e.to) es ≡ count_by (λ e. same_name e.to o) es

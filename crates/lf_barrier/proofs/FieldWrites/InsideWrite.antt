@@ -27,8 +27,8 @@ use Rattle.lf_base.proofs.ListLemmas.Sublists.{Sub, none, pass, sub_filter}
 use Rattle.lf_base.proofs.NameLemmas.SameNames.{same_name_is}
 use Rattle.lf_barrier.specs.MovingEdges.{MayCountRows, MayGiveRows, MayUncountRows, RowKeysDiffer, fields_in, targets_in}
 use Rattle.lf_barrier.specs.WritePlans.{write_size}
-use Rattle.lf_barrier.proofs.FieldLoops.{fields_told, length_counts}
-use Rattle.lf_barrier.proofs.RowLoops.{fields_given, found_in_map, head_there, tail_there}
+use Rattle.lf_barrier.proofs.MovingEdges.FieldLoops.{fields_told, length_counts}
+use Rattle.lf_barrier.proofs.MovingEdges.RowLoops.{fields_given, found_in_map, head_there, tail_there}
 use Rattle.lf_domain.specs.Counts.{Counts, CountsOf}
 use Rattle.lf_domain.specs.OneEdge.{HasOneOwner, HaveBridges, MayCountOwner, MayUncountOwner, OnlyBridges}
 use Rattle.lf_domain.proofs.CountedEdges.{same_counts}

@@ -1,6 +1,9 @@
 -- A survey of one more object, and of more objects one after the other.
 use Rattle.std.proofs.Common.{Bool, List, None, Option, Some, [], ap, arith, cond, false, flat_map, inl, inr, length, refl, subst, sym, true, ℕ, ◌&&◌, ◌+◌, ◌++◌, ◌<◌, ◌||◌, ◌∙◌, ◌∷◌, ◌≡◌, ◌≤◌, ◌⊎◌}
+use Rattle.std.proofs.lemmas.Bool.{and_parts, or_cases, or_parts}
+use Rattle.std.proofs.lemmas.Grind.{flat_map-append}
 use Rattle.std.proofs.lemmas.List.{append-nil, append_assoc}
+use Rattle.std.proofs.lemmas.List.Folds.{list_any-append}
 use Rattle.std.proofs.Math.Bool.{or-false, or-true}
 use Rattle.std.specs.List.{list_any}
 use Rattle.lf_base.specs.declared.ids.ObjId.{ObjId}
@@ -19,22 +22,18 @@ use Rattle.lf_graph.specs.StoredRows.{CountedRow, owner_at}
 use Rattle.lf_graph.proofs.Stores.FieldWalks.{FieldKeysDiffer}
 use Rattle.lf_laws.proofs.Edges.EdgeParts.{any_some, count_app, some_any}
 use Rattle.lf_regions.specs.declared.region.Region.{Region}
-use Rattle.lf_barrier.proofs.FieldLoops.{FieldWalk, walk_begins, walk_goes_on, walk_over}
+use Rattle.lf_barrier.proofs.MovingEdges.FieldLoops.{FieldWalk, walk_begins, walk_goes_on, walk_over}
 use Rattle.lf_barrier.specs.declared.survey.Survey.{Survey}
-use Rattle.lf_barrier.specs.Surveys.{Extends, IsSurvey, Visits, is_other_bridge, is_owned_besides, visits_of, with_name}
-
-pub any_app : {X : Type 0} (p : X → Bool) (xs ys : List X) → list_any p (xs ++ ys) ≡ (list_any p xs || list_any p ys)
-any_app p [] ys = refl
-any_app p (x ∷ xs) ys = elim (p x) as (λ b. (b || list_any p (xs ++ ys)) ≡ ((b || list_any p xs) || list_any p ys)) [ true ↦ refl | false ↦ any_app p xs ys ]
+use Rattle.lf_barrier.specs.Surveys.{Extends, IsSurvey, Visits, is_other_bridge, is_owned_besides, names_with, visits_of}
 
 any_more_one : {X : Type 0} (p : X → Bool) (xs : List X) (x : X) → list_any p (xs ++ x ∷ []) ≡ (list_any p xs || p x)
-any_more_one p xs x = any_app p xs (x ∷ []) ∙ ap (λ b. list_any p xs || b) (or-false (p x))
+any_more_one p xs x = list_any-append p xs (x ∷ []) ∙ ap (λ b. list_any p xs || b) (or-false (p x))
 
 has_more_one : (os : List ObjId) (o q : ObjId) → has_name (os ++ o ∷ []) q ≡ (has_name os q || same_name o q)
 has_more_one os o q = any_more_one (λ p. same_name p q) os o
 
 -- one more name, or none
-has_with : (os : List ObjId) (o q : ObjId) → has_name (with_name os o) q ≡ (has_name os q || same_name o q)
+has_with : (os : List ObjId) (o q : ObjId) → has_name (names_with os o) q ≡ (has_name os q || same_name o q)
 has_with os o q =
     elim (has_name os o) as (λ b. has_name os o ≡ b → has_name (cond b os (os ++ o ∷ [])) q ≡ (has_name os q || same_name o q)) [
       | true ↦ λ h. elim (same_name o q) as (λ b. same_name o q ≡ b → has_name os q ≡ (has_name os q || b)) [
@@ -44,7 +43,7 @@ has_with os o q =
       | false ↦ λ h. has_more_one os o q
     ] refl
 
-differ_with : (os : List ObjId) (o : ObjId) → Differ same_name os → Differ same_name (with_name os o)
+differ_with : (os : List ObjId) (o : ObjId) → Differ same_name os → Differ same_name (names_with os o)
 differ_with os o d =
     elim (has_name os o) as (λ b. has_name os o ≡ b → Differ same_name (cond b os (os ++ o ∷ []))) [
       | true ↦ λ h. d
@@ -55,35 +54,19 @@ differ_with os o d =
       flip_any (x ∷ xs) = λ i. same_name_flips o x i || flip_any xs i
 
 -- by whether the object passes a test
-pub has_if : (b : Bool) (os : List ObjId) (o q : ObjId) → has_name (cond b (with_name os o) os) q ≡ (has_name os q || (b && same_name o q))
+pub has_if : (b : Bool) (os : List ObjId) (o q : ObjId) → has_name (cond b (names_with os o) os) q ≡ (has_name os q || (b && same_name o q))
 has_if true os o q = has_with os o q
 has_if false os o q = sym (or-false (has_name os q))
 
-pub grows_if : (b : Bool) (os : List ObjId) (o : ObjId) → (more : List ObjId) × (cond b (with_name os o) os ≡ os ++ more)
+pub grows_if : (b : Bool) (os : List ObjId) (o : ObjId) → (more : List ObjId) × (cond b (names_with os o) os ≡ os ++ more)
 grows_if true os o = elim (has_name os o) as (λ b. (more : List ObjId) × (cond b os (os ++ o ∷ []) ≡ os ++ more)) [ true ↦ ([], sym (append-nil os)) | false ↦ (o ∷ [], refl) ]
 grows_if false os o = ([], sym (append-nil os))
-
-or_none_left : (a b : Bool) → (a || b) ≡ false → (a ≡ false) × (b ≡ false)
-or_none_left true b e = absurd (let z : true ≡ false = e in cc)
-or_none_left false b e = (refl, e)
-
-or_which : (a b : Bool) → (a || b) ≡ true → (a ≡ true) ⊎ (b ≡ true)
-or_which true b e = inl refl
-or_which false b e = inr e
-
-both_of : (a b : Bool) → (a && b) ≡ true → (a ≡ true) × (b ≡ true)
-both_of true b e = (refl, e)
-both_of false b e = absurd (let z : false ≡ true = e in cc)
 
 count_more_one : (seen : List ObjId) (o b : ObjId) → visits_of (seen ++ o ∷ []) b ≡ visits_of seen b + cond (same_name o b) 1 0
 count_more_one seen o b = count_app (λ p. same_name p b) seen (o ∷ []) ∙ (elim (same_name o b) as (λ c. visits_of seen b + (0 + cond c 1 0) ≡ visits_of seen b + cond c 1 0) [ true ↦ omega arith | false ↦ omega arith ])
 
-flat_app : {X Y : Type 0} (f : X → List Y) (xs ys : List X) → flat_map f (xs ++ ys) ≡ flat_map f xs ++ flat_map f ys
-flat_app f [] ys = refl
-flat_app f (x ∷ xs) ys = ap (λ l. f x ++ l) (flat_app f xs ys) ∙ sym (append_assoc (f x) (flat_map f xs) (flat_map f ys))
-
 pub flat_more : {X Y : Type 0} (f : X → List Y) (xs : List X) (x : X) → flat_map f (xs ++ x ∷ []) ≡ flat_map f xs ++ f x
-flat_more f xs x = flat_app f xs (x ∷ []) ∙ ap (λ l. flat_map f xs ++ l) (append-nil (f x))
+flat_more f xs x = flat_map-append f xs (x ∷ []) ∙ ap (λ l. flat_map f xs ++ l) (append-nil (f x))
 
 pub targets_more : (fs : List (Key × Value)) (f : Key × Value) → field_targets (fs ++ f ∷ []) ≡ field_targets fs ++ targets_of_value f.1
 targets_more fs f = flat_more (λ (g : Key × Value). targets_of_value g.1) fs f
@@ -117,13 +100,13 @@ module _ (rows : List CountedRow) (regions : List Region) (home : ObjId) (old : 
 
     once_more : after.second ≡ false → (b : ObjId) → other b ≡ true → (visits_of (seen ++ o ∷ []) b ≤ 1) × (0 < visits_of (seen ++ o ∷ []) b → is_owned_besides regions old b ≡ false)
     once_more none b h =
-        let parts = or_none_left before.second (other o && (has_name (before.touched).keys o || is_owned_besides regions old o)) (sym v.is_second ∙ none) in
+        let parts = or_parts before.second (other o && (has_name (before.touched).keys o || is_owned_besides regions old o)) (sym v.is_second ∙ none) in
         let first = is.once parts.0 b h in
         elim (same_name o b) as (λ c. same_name o b ≡ c → (visits_of (seen ++ o ∷ []) b ≤ 1) × (0 < visits_of (seen ++ o ∷ []) b → is_owned_besides regions old b ≡ false)) [
           | true ↦ λ t.
               let same : o ≡ b = same_name_is o b t in
               let o_other : other o ≡ true = ap other same ∙ h in
-              let two = or_none_left (has_name (before.touched).keys o) (is_owned_besides regions old o) (ap (λ c. c && (has_name (before.touched).keys o || is_owned_besides regions old o)) (sym o_other) ∙ parts.1) in
+              let two = or_parts (has_name (before.touched).keys o) (is_owned_besides regions old o) (ap (λ c. c && (has_name (before.touched).keys o || is_owned_besides regions old o)) (sym o_other) ∙ parts.1) in
               let zero_before : visits_of seen b ≡ 0 = subst (λ q. visits_of seen q ≡ 0) same (not_visited seen o (sym (was_there o_other) ∙ two.0)) in
               (omega (arith, zero_before, count_more_one seen o b, ap {B = ℕ} (λ c. cond c 1 0) t), λ m. ap (is_owned_besides regions old) (sym same) ∙ two.1)
           | false ↦ λ t.
@@ -151,11 +134,11 @@ module _ (rows : List CountedRow) (regions : List Region) (home : ObjId) (old : 
 
     twice_now : (other o && (has_name (before.touched).keys o || is_owned_besides regions old o)) ≡ true → Twice (seen ++ o ∷ [])
     twice_now h =
-        let parts = both_of (other o) (has_name (before.touched).keys o || is_owned_besides regions old o) h in (
+        let parts = and_parts (other o) (has_name (before.touched).keys o || is_owned_besides regions old o) h in (
           o,
           (
             parts.0,
-            elim (or_which (has_name (before.touched).keys o) (is_owned_besides regions old o) parts.1) as (λ _. (1 < visits_of (seen ++ o ∷ []) o) ⊎ ((0 < visits_of (seen ++ o ∷ []) o) × (is_owned_besides regions old o ≡ true))) [
+            elim (or_cases (has_name (before.touched).keys o) (is_owned_besides regions old o) parts.1) as (λ _. (1 < visits_of (seen ++ o ∷ []) o) ⊎ ((0 < visits_of (seen ++ o ∷ []) o) × (is_owned_besides regions old o ≡ true))) [
               | inl t ↦ inl (omega (arith, itself, visited_if seen o (sym (was_there parts.0) ∙ t)))
               | inr t ↦ inr (omega (arith, itself), t)
             ],
@@ -166,12 +149,12 @@ module _ (rows : List CountedRow) (regions : List Region) (home : ObjId) (old : 
     one_more = record {
       moves = λ q. ap (λ l. has_name l q) v.moved ∙ has_if (is_local_at (owner_at rows o)) (before.moved).keys o q ∙ ap (λ b. b || (is_local_at (owner_at rows o) && same_name o q)) (is.moves q)
           ∙ sym (any_more_one (λ p. is_local_at (owner_at rows p) && same_name p q) seen o);
-      differ = subst (Differ same_name) (sym v.moved) (elim (is_local_at (owner_at rows o)) as (λ b. Differ same_name (cond b (with_name (before.moved).keys o) (before.moved).keys)) [ true ↦ differ_with (before.moved).keys o is.differ | false ↦ is.differ ]);
+      differ = subst (Differ same_name) (sym v.moved) (elim (is_local_at (owner_at rows o)) as (λ b. Differ same_name (cond b (names_with (before.moved).keys o) (before.moved).keys)) [ true ↦ differ_with (before.moved).keys o is.differ | false ↦ is.differ ]);
       touches = λ q. ap (λ l. has_name l q) v.touched ∙ has_if (other o) (before.touched).keys o q ∙ ap (λ b. b || (other o && same_name o q)) (is.touches q)
           ∙ sym (any_more_one (λ p. other p && same_name p q) seen o);
       is_inside = v.is_inside ∙ ap (λ b. b || is_inside_other home o (owner_at rows o)) is.is_inside ∙ sym (any_more_one (λ p. is_inside_other home p (owner_at rows p)) seen o);
       once = once_more;
-      twice = λ h. elim (or_which before.second (other o && (has_name (before.touched).keys o || is_owned_besides regions old o)) (sym v.is_second ∙ h)) as (λ _. Twice (seen ++ o ∷ [])) [
+      twice = λ h. elim (or_cases before.second (other o && (has_name (before.touched).keys o || is_owned_besides regions old o)) (sym v.is_second ∙ h)) as (λ _. Twice (seen ++ o ∷ [])) [
         | inl t ↦ still_twice (is.twice t)
         | inr t ↦ twice_now t
       ];

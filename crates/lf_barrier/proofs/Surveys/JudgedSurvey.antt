@@ -1,6 +1,6 @@
 -- What a survey of all that moves says of the write.
 use Rattle.std.proofs.Common.{Bool, List, None, Option, Some, [], ap, arith, cond, false, flat_map, inl, inr, ltb, not, refl, subst, sym, true, ℕ, ◌&&◌, ◌+◌, ◌<◌, ◌∙◌, ◌∷◌, ◌≡◌, ◌≤◌, ◌⊎◌}
-use Rattle.std.proofs.lemmas.Bool.{false_from_ne_true, lt-ltb, ltb-true}
+use Rattle.std.proofs.lemmas.Bool.{and_parts, false_from_ne_true, lt-ltb, ltb-true}
 use Rattle.std.specs.List.{count_by, list_any}
 use Rattle.std.specs.Option.{option_to_list}
 use Rattle.lf_base.specs.declared.faults.Fault.TheVariants.{Cycle, Interior, SecondOwner}
@@ -28,8 +28,8 @@ use Rattle.lf_barrier.specs.declared.survey.Survey.{Survey}
 use Rattle.lf_barrier.specs.Descents.{IsBelow}
 use Rattle.lf_barrier.specs.Surveys.{IsSurvey, is_other_bridge, is_that, objects_touched, visits_of}
 use Rattle.lf_barrier.proofs.ContentCalls.{some_left}
-use Rattle.lf_barrier.proofs.FieldLoops.{fields_told}
-use Rattle.lf_barrier.proofs.SurveySteps.{touched_is}
+use Rattle.lf_barrier.proofs.MovingEdges.FieldLoops.{fields_told}
+use Rattle.lf_barrier.proofs.Surveys.SurveySteps.{touched_is}
 use Rattle.lf_domain.specs.Counts.{IsDomain}
 use Rattle.lf_domain.proofs.EdgeTests.{count_cons}
 use Rattle.lf_domain.proofs.NearCounts.{bridge_has_row}
@@ -48,10 +48,6 @@ use Rattle.lf_regions.specs.declared.region.Region.{Region}
 use Rattle.lf_regions.specs.Regions.{owned_of}
 use Rattle.lf_regions.specs.TableCounts.{owns_region}
 
-both_true : (a b : Bool) → (a && b) ≡ true → (a ≡ true) × (b ≡ true)
-both_true true b e = (refl, e)
-both_true false b e = absurd (let z : false ≡ true = e in cc)
-
 -- a test of where edges lead
 leads_by : (p : ObjId → Bool) (f : Source) (os : List ObjId) → count_by (λ (e : Edge). p e.to) (edges_by f os) ≡ count_by p os
 leads_by p f [] = refl
@@ -59,14 +55,13 @@ leads_by p f (o ∷ os) = omega (arith, count_cons (λ (e : Edge). p e.to) (reco
   one : count_by p (o ∷ []) ≡ cond (p o) 1 0
   one = elim (p o) as (λ c. 0 + cond c 1 0 ≡ cond c 1 0) [ true ↦ refl | false ↦ refl ]
 
+zero_by : (n : ℕ) → (0 < n → ⊥) → n ≡ 0
+zero_by n f = grind (arith, f)
+
 once_fits : (n c visits : ℕ) (owned that : Bool) → n ≤ 1 → ltb 0 n ≡ owned → c ≡ cond that 1 0 → visits ≤ 1 → (0 < visits → (owned && not that) ≡ false) → n + visits ≤ c + 1
-once_fits n c visits false that one e k most h = omega (arith, most, none_of n (λ m. let z : true ≡ false = sym (lt-ltb 0 n m) ∙ e in cc)) where
-  none_of : (n : ℕ) → (0 < n → ⊥) → n ≡ 0
-  none_of n f = grind (arith, f)
+once_fits n c visits false that one e k most h = omega (arith, most, zero_by n (λ m. let z : true ≡ false = sym (lt-ltb 0 n m) ∙ e in cc))
 once_fits n c visits true true one e k most h = omega (arith, one, k, most)
-once_fits n c visits true false one e k most h = omega (arith, one, none_of visits (λ m. let z : true ≡ false = h m in cc)) where
-  none_of : (n : ℕ) → (0 < n → ⊥) → n ≡ 0
-  none_of n f = grind (arith, f)
+once_fits n c visits true false one e k most h = omega (arith, one, zero_by visits (λ m. let z : true ≡ false = h m in cc))
 
 twice_fits : (n c visits : ℕ) (owned that : Bool) → ltb 0 n ≡ owned → c ≡ cond that 1 0 → c ≤ n → (1 < visits) ⊎ ((0 < visits) × ((owned && not that) ≡ true)) → c + 1 < n + visits
 twice_fits n c visits owned that e k less (inl m) = omega (arith, less, m)
@@ -151,7 +146,7 @@ module _ (rows : List CountedRow) (regions : List Region) (s : State) (d : IsDom
 
   by_owner : (b : ObjId) (w : Option Owner) → is_other_bridge home b w ≡ true → (w ≡ Some (In b)) × (same_name home b ≡ false)
   by_owner b (Some (In q)) e =
-      let p = both_true (not (same_name home q)) (same_name q b) e in
+      let p = and_parts (not (same_name home q)) (same_name q b) e in
       let same : q ≡ b = same_name_is q b p.1 in
       (ap (λ n. Some (In n)) same, false_from_ne_true _ (λ h. let z : false ≡ true = ap not (sym h) ∙ ap (λ n. not (same_name home n)) (sym same) ∙ p.0 in cc))
   by_owner b (Some Local) e = absurd (let z : false ≡ true = e in cc)
@@ -186,7 +181,7 @@ module _ (rows : List CountedRow) (regions : List Region) (s : State) (d : IsDom
   pub touched_other : (b : ObjId) → has_name (found.touched).keys b ≡ true → is_other_bridge home b (owner_at rows b) ≡ true
   touched_other b h =
       let t = any_Member (λ p. is_other_bridge home p (owner_at rows p) && same_name p b) seen (sym (is.touches b) ∙ h) in
-      let p = both_true (is_other_bridge home t.0 (owner_at rows t.0)) (same_name t.0 b) t.1.1 in
+      let p = and_parts (is_other_bridge home t.0 (owner_at rows t.0)) (same_name t.0 b) t.1.1 in
       ap (λ n. is_other_bridge home n (owner_at rows n)) (sym (same_name_is t.0 b p.1)) ∙ p.0
 
   touched_named : (b : ObjId) → TouchesOther s x v home ms b → has_name (found.touched).keys b ≡ true

@@ -1,6 +1,8 @@
 -- A survey over the rows that move, each of them once.
-use Rattle.std.proofs.Common.{Bool, List, None, Option, Some, [], ap, arith, false, flat_map, inl, inr, length, refl, slice_get, subst, suc, sym, true, zero, ℕ, ◌&&◌, ◌+◌, ◌++◌, ◌||◌, ◌∙◌, ◌∷◌, ◌≡◌, ◌⊎◌}
+use Rattle.std.proofs.Common.{List, None, Option, Some, [], ap, arith, false, flat_map, inl, inr, length, refl, slice_get, subst, suc, sym, true, zero, ℕ, ◌&&◌, ◌+◌, ◌++◌, ◌||◌, ◌∙◌, ◌∷◌, ◌≡◌}
+use Rattle.std.proofs.lemmas.Bool.{and_parts, or_cases}
 use Rattle.std.proofs.lemmas.List.{append-nil, append_assoc, length-append}
+use Rattle.std.proofs.lemmas.List.Folds.{list_any-append}
 use Rattle.std.proofs.Math.Bool.{or-true}
 use Rattle.std.specs.List.{list_any}
 use Rattle.lf_base.specs.declared.ids.ObjId.{ObjId}
@@ -16,10 +18,10 @@ use Rattle.lf_base.proofs.ListLemmas.Members.{Member_left, any_Member}
 use Rattle.lf_base.proofs.NameLemmas.SameNames.{same_name_is}
 use Rattle.lf_barrier.specs.declared.survey.Survey.{Survey}
 use Rattle.lf_barrier.specs.Surveys.{Extends, IsSurvey, objects_touched}
-use Rattle.lf_barrier.proofs.FieldLoops.{fields_told}
-use Rattle.lf_barrier.proofs.InsideWrite.{keys_found, target_edge}
-use Rattle.lf_barrier.proofs.RowLoops.{head_there}
-use Rattle.lf_barrier.proofs.SurveySteps.{any_app, flat_more}
+use Rattle.lf_barrier.proofs.MovingEdges.FieldLoops.{fields_told}
+use Rattle.lf_barrier.proofs.FieldWrites.InsideWrite.{keys_found, target_edge}
+use Rattle.lf_barrier.proofs.MovingEdges.RowLoops.{head_there}
+use Rattle.lf_barrier.proofs.Surveys.SurveySteps.{flat_more}
 use Rattle.lf_domain.specs.Counts.{IsDomain}
 use Rattle.lf_domain.proofs.StoreEdges.{owned_has_row, owner_told}
 use Rattle.lf_graph.specs.StoredRows.{CountedRow, HasRow, fields_at, owner_at}
@@ -68,12 +70,9 @@ module _ (rows : List CountedRow) (regions : List Region) (home : ObjId) (old : 
   visited_local : (seen : List ObjId) (o : ObjId) → list_any (λ p. is_local_at (owner_at rows p) && same_name p o) seen ≡ true → Member o seen × (owner_at rows o ≡ Some Local)
   visited_local seen o h =
       let t = any_Member (λ p. is_local_at (owner_at rows p) && same_name p o) seen h in
-      let parts = both_parts (is_local_at (owner_at rows t.0)) (same_name t.0 o) t.1.1 in
+      let parts = and_parts (is_local_at (owner_at rows t.0)) (same_name t.0 o) t.1.1 in
       let same : t.0 ≡ o = same_name_is t.0 o parts.1 in
-      (subst (λ n. Member n seen) same t.1.0, local_at_is (owner_at rows o) (ap (λ n. is_local_at (owner_at rows n)) (sym same) ∙ parts.0)) where
-        both_parts : (a b : Bool) → (a && b) ≡ true → (a ≡ true) × (b ≡ true)
-        both_parts true b e = (refl, e)
-        both_parts false b e = absurd (let z : false ≡ true = e in cc)
+      (subst (λ n. Member n seen) same t.1.0, local_at_is (owner_at rows o) (ap (λ n. is_local_at (owner_at rows n)) (sym same) ∙ parts.0))
 
   pub moved_owner : (seen : List ObjId) (found : Survey) → IsSurvey rows regions home old seen found → (o : ObjId) → has_name (found.moved).keys o ≡ true → owner_at rows o ≡ Some Local
   moved_owner seen found is o h = (visited_local seen o (moved_visited seen found is o h)).1
@@ -131,19 +130,16 @@ module _ (rows : List CountedRow) (regions : List Region) (home : ObjId) (old : 
           split = e.grows ∙ ap (λ l. l ++ e.more) keys_now ∙ append_assoc g.done (p ∷ (next_left).0) e.more ∙ sym (append_assoc g.done (p ∷ []) ((next_left).0 ++ e.more));
           is = subst (λ l. IsSurvey rows regions home old l next)
               (append_assoc (targets_of_value v) (flat_map (λ o. field_targets (fields_at rows o)) g.done) own ∙ ap (λ l. targets_of_value v ++ l) (sym (flat_more (λ o. field_targets (fields_at rows o)) g.done p))) after;
-          within = λ s d o h. within_next next s d o (sym (any_app (λ q. is_local_at (owner_at rows q) && same_name q o) (objects_touched rows v g.done) own) ∙ moved_visited (objects_touched rows v g.done ++ own) next after o h);
+          within = λ s d o h. within_next next s d o (sym (list_any-append (λ q. is_local_at (owner_at rows q) && same_name q o) (objects_touched rows v g.done) own) ∙ moved_visited (objects_touched rows v g.done ++ own) next after o h);
         } where
           within_next : (next : Survey) (s : State) → IsDomain rows regions s → (o : ObjId) → (list_any (λ q. is_local_at (owner_at rows q) && same_name q o) (objects_touched rows v g.done) || list_any (λ q. is_local_at (owner_at rows q) && same_name q o) own) ≡ true → has_name (names (move_set s v)) o ≡ true
-          within_next next s d o h = elim (which (list_any (λ q. is_local_at (owner_at rows q) && same_name q o) (objects_touched rows v g.done)) (list_any (λ q. is_local_at (owner_at rows q) && same_name q o) own) h) as (λ _. has_name (names (move_set s v)) o ≡ true) [
+          within_next next s d o h = elim (or_cases (list_any (λ q. is_local_at (owner_at rows q) && same_name q o) (objects_touched rows v g.done)) (list_any (λ q. is_local_at (owner_at rows q) && same_name q o) own) h) as (λ _. has_name (names (move_set s v)) o ≡ true) [
             | inl a ↦ g.within s d o ((g.is).moves o ∙ a)
             | inr b ↦
                 let t = visited_local own o b in
                 moved_step s v (rows_in_place s d.well_formed).distinct (record { from = Field p; to = o })
                 (target_edge s.rows p o (subst (λ l. Member o (field_targets l)) (fields_told rows s.rows p ((d.counts).store).rows) t.0)) p refl (g.within s d p moves_too) (state_local s d o t.1)
-          ] where
-            which : (a b : Bool) → (a || b) ≡ true → (a ≡ true) ⊎ (b ≡ true)
-            which true b e = inl refl
-            which false b e = inr e
+          ]
 
   pub surveyed : (i : ℕ) (found : Survey) (g : Surveying i found) → None ≡ slice_get (found.moved).keys i → IsSurvey rows regions home old (objects_touched rows v (found.moved).keys) found
   surveyed i found g none =

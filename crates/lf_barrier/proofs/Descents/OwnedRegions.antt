@@ -1,5 +1,6 @@
 -- The bridges that a region owns, found row by row; and those below others, region by region.
 use Rattle.std.proofs.Common.{Bool, List, None, Option, Some, [], ap, cond, false, flat_map, inl, inr, length, not, refl, subst, sym, true, ℕ, ◌&&◌, ◌+◌, ◌++◌, ◌||◌, ◌∙◌, ◌∷◌, ◌≡◌, ◌≤◌, ◌⊎◌}
+use Rattle.std.proofs.lemmas.Bool.{and_parts, or_cases}
 use Rattle.std.proofs.lemmas.List.{append-nil, append_assoc}
 use Rattle.std.proofs.Math.Bool.{or-true}
 use Rattle.std.specs.List.{list_any}
@@ -18,22 +19,18 @@ use Rattle.lf_base.proofs.ListLemmas.Filters.{Member_of_filter}
 use Rattle.lf_base.proofs.ListLemmas.Members.{Member_flat_map, Member_left, Member_of_append, Member_right}
 use Rattle.lf_base.proofs.NameLemmas.SameNames.{same_name_is, same_name_itself}
 use Rattle.lf_barrier.specs.Descents.{Looked, Passed, is_child, region_targets}
-use Rattle.lf_barrier.specs.Surveys.{with_name}
-use Rattle.lf_barrier.proofs.FieldLoops.{FieldWalk, walk_begins, walk_goes_on, walk_over}
-use Rattle.lf_barrier.proofs.SurveySteps.{flat_more, grows_if, has_if, targets_more}
+use Rattle.lf_barrier.specs.Surveys.{names_with}
+use Rattle.lf_barrier.proofs.MovingEdges.FieldLoops.{FieldWalk, walk_begins, walk_goes_on, walk_over}
+use Rattle.lf_barrier.proofs.Surveys.SurveySteps.{flat_more, grows_if, has_if, targets_more}
 use Rattle.lf_graph.specs.StoredRows.{CountedRow, HasRow, NamesDiffer, fields_at, fields_by, first_name, is_under, name_after, owner_at, plain, row_named, rows_beside, rows_of}
 use Rattle.lf_graph.proofs.Stores.FieldWalks.{FieldKeysDiffer}
 use Rattle.lf_graph.proofs.Stores.Walks.{next_in_walk}
-
-both_true : (a b : Bool) → (a && b) ≡ true → (a ≡ true) × (b ≡ true)
-both_true true b e = (refl, e)
-both_true false b e = absurd (let z : false ≡ true = e in cc)
 
 module _ (rows : List CountedRow) (r home : ObjId) where
   abbrev child : ObjId → Bool
   child t = is_child r t (owner_at rows t)
 
-  passed_by : (b : Bool) (o : ObjId) (before after : List ObjId) → after ≡ cond b (with_name before o) before → ((t : ObjId) → t ≡ o → child t ≡ true → (b ≡ true) × (same_name t home ≡ false))
+  passed_by : (b : Bool) (o : ObjId) (before after : List ObjId) → after ≡ cond b (names_with before o) before → ((t : ObjId) → t ≡ o → child t ≡ true → (b ≡ true) × (same_name t home ≡ false))
       → (b ≡ true → child o ≡ true) → (b ≡ true → same_name o home ≡ false) → Passed rows r home (o ∷ []) before after
   passed_by b o before after is cover one far =
       let has : (t : ObjId) → has_name after t ≡ (has_name before t || (b && same_name o t)) = λ t. ap (λ l. has_name l t) is ∙ has_if b before o t in
@@ -45,10 +42,10 @@ module _ (rows : List CountedRow) (r home : ObjId) where
               (has t ∙ ap (λ x. has_name before t || (x && same_name o t)) k.0 ∙ ap (λ x. has_name before t || x) (ap (same_name o) (sym e) ∙ same_name_itself o) ∙ or-true (has_name before t), k.1)
           | inr n ↦ absurd n
         ];
-        only = λ t h. elim (which (has_name before t) (b && same_name o t) (sym (has t) ∙ h)) as (λ _. (has_name before t ≡ true) ⊎ (Member t (o ∷ []) × (child t ≡ true))) [
+        only = λ t h. elim (or_cases (has_name before t) (b && same_name o t) (sym (has t) ∙ h)) as (λ _. (has_name before t ≡ true) ⊎ (Member t (o ∷ []) × (child t ≡ true))) [
           | inl k ↦ inl k
           | inr k ↦
-              let p = both_true b (same_name o t) k in
+              let p = and_parts b (same_name o t) k in
               let same : o ≡ t = same_name_is o t p.1 in
               inr (inl same, ap child (sym same) ∙ one p.0)
         ];
@@ -56,17 +53,13 @@ module _ (rows : List CountedRow) (r home : ObjId) where
         more = g.0;
         grows = is ∙ g.1;
       } where
-        which : (a c : Bool) → (a || c) ≡ true → (a ≡ true) ⊎ (c ≡ true)
-        which true c e = inl refl
-        which false c e = inr e
-
         none_here : (c : Bool) → (c ≡ true → same_name o home ≡ false) → (c && same_name o home) ≡ false
         none_here true f = f refl
         none_here false f = refl
 
-  pub looked_one : (o : ObjId) (before after : List ObjId) (found : Bool) → found ≡ (child o && same_name o home) → after ≡ cond (child o && not (same_name o home)) (with_name before o) before → Looked rows r home (o ∷ []) before after found
+  pub looked_one : (o : ObjId) (before after : List ObjId) (found : Bool) → found ≡ (child o && same_name o home) → after ≡ cond (child o && not (same_name o home)) (names_with before o) before → Looked rows r home (o ∷ []) before after found
   looked_one o before after found f is = by_child (child o) (same_name o home) refl refl found f is where
-    by_child : (b c : Bool) → child o ≡ b → same_name o home ≡ c → (found : Bool) → found ≡ (b && c) → after ≡ cond (b && not c) (with_name before o) before → Looked rows r home (o ∷ []) before after found
+    by_child : (b c : Bool) → child o ≡ b → same_name o home ≡ c → (found : Bool) → found ≡ (b && c) → after ≡ cond (b && not c) (names_with before o) before → Looked rows r home (o ∷ []) before after found
     by_child true true p q found f is = subst (Looked rows r home (o ∷ []) before after) (sym f) (let same : o ≡ home = same_name_is o home q in (inl same, ap child (sym same) ∙ p))
     by_child true false p q found f is = subst (Looked rows r home (o ∷ []) before after) (sym f) (passed_by true o before after is (λ t e k. (refl, ap (λ n. same_name n home) e ∙ q)) (λ e. p) (λ e. q))
     by_child false c p q found f is = subst (Looked rows r home (o ∷ []) before after) (sym f)

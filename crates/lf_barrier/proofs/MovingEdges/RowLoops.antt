@@ -1,6 +1,6 @@
 -- Rows gone over one by one: their edges taken out of the counts, the rows given to a region, their edges counted.
-use Rattle.std.proofs.Common.{List, None, Option, Some, [], ap, arith, cond, drop, false, get_or, length, map, refl, subst, suc, sym, true, zero, ℕ, ◌+◌, ◌++◌, ◌<◌, ◌^◌, ◌||◌, ◌∙◌, ◌∷◌, ◌≡◌, ◌≤◌}
-use Rattle.std.proofs.lemmas.Bool.{false_from_ne_true}
+use Rattle.std.proofs.Common.{List, None, Option, Some, [], ap, arith, cond, drop, false, get_or, length, map, refl, subst, suc, sym, true, zero, ℕ, ◌++◌, ◌<◌, ◌||◌, ◌∙◌, ◌∷◌, ◌≡◌, ◌≤◌}
+use Rattle.std.proofs.lemmas.Bool.{false_from_ne_true, or_parts}
 use Rattle.std.proofs.lemmas.List.{append_assoc}
 use Rattle.std.proofs.Math.Bool.{or-true}
 use Rattle.std.specs.Option.{option_map}
@@ -17,7 +17,7 @@ use Rattle.lf_base.specs.WalkCounts.{is_borrower}
 use Rattle.lf_base.specs.WriteResult.{relabel}
 use Rattle.lf_base.proofs.NameLemmas.SameNames.{same_name_is, same_name_itself}
 use Rattle.lf_barrier.specs.MovingEdges.{MayCountRow, MayCountRows, MayGive, MayGiveRows, MayUncountRow, MayUncountRows, fields_in, targets_in}
-use Rattle.lf_barrier.proofs.FieldLoops.{fields_told, length_counts, length_edges, same_lists}
+use Rattle.lf_barrier.proofs.MovingEdges.FieldLoops.{fields_told, length_counts, length_edges, same_lists}
 use Rattle.lf_domain.specs.Counts.{Counts}
 use Rattle.lf_domain.proofs.CountedEdges.{same_counts}
 use Rattle.lf_graph.specs.StoredRows.{AreRowsOf, CountedRow, fields_at}
@@ -89,10 +89,7 @@ module _ (rows now : List CountedRow) (regions_now : List Region) (of : List Row
 
   still_near : (f : Source) → begins_at (o ∷ rest) f ≡ false → is_borrower g.of_now f ≡ true → is_borrower next_of f ≡ true
   still_near Slot h e = refl
-  still_near (Field p) h e = ap is_local_at (owner_else p (or_first_false (same_name o p) (has_name rest p) h)) ∙ e where
-    or_first_false : (a b : Rattle.std.proofs.Common.Bool) → (a || b) ≡ false → a ≡ false
-    or_first_false true b e = e
-    or_first_false false b e = refl
+  still_near (Field p) h e = ap is_local_at (owner_else p (or_parts (same_name o p) (has_name rest p) h).0) ∙ e
   still_near (Content c) h e = e
 
   rest_not : (f : Source) → begins_at (o ∷ rest) f ≡ false → begins_at rest f ≡ false
@@ -193,10 +190,10 @@ pub rows_counted : (now : List CountedRow) (regions_now : List Region) (of : Lis
 rows_counted now regions_now of es left all none so =
     same_counts now regions_now of so.edges (edges_from of all ++ es) (subst (λ l. SameEdges (edges_from of l ++ so.edges) (edges_from of all ++ es)) none so.same) so.counts
 
-pub name_at : (os : List ObjId) (i : ℕ) (d : ObjId) → i < length os → has_name os (get_or os i d) ≡ true
-name_at [] i d h = absurd (omega (arith, h))
-name_at (o ∷ os) zero d h = head_there o os
-name_at (o ∷ os) (suc i) d h = tail_there o os (get_or os i d) (name_at os i d (omega (arith, h)))
+pub name_at_is_there : (os : List ObjId) (i : ℕ) (d : ObjId) → i < length os → has_name os (get_or os i d) ≡ true
+name_at_is_there [] i d h = absurd (omega (arith, h))
+name_at_is_there (o ∷ os) zero d h = head_there o os
+name_at_is_there (o ∷ os) (suc i) d h = tail_there o os (get_or os i d) (name_at_is_there os i d (omega (arith, h)))
 
 abbrev pub no_name : ObjId
 no_name = record { birth = 0; seq = 0 }

@@ -13,8 +13,8 @@ use Rattle.lf_base.specs.TakeResult.{field_at}
 use Rattle.lf_base.specs.TouchedEdges.{WritesInto}
 use Rattle.lf_base.specs.WriteResult.{refusal_by, write_refusal}
 use Rattle.lf_barrier.specs.WritePlans.{plan_room}
-use Rattle.lf_barrier.proofs.FieldLoops.{row_there}
-use Rattle.lf_barrier.proofs.InsideWrite.{sum_on}
+use Rattle.lf_barrier.proofs.MovingEdges.FieldLoops.{has_row_by_owner}
+use Rattle.lf_barrier.proofs.FieldWrites.InsideWrite.{sum_on}
 use Rattle.lf_domain.specs.Counts.{IsDomain}
 use Rattle.lf_domain.proofs.StoreEdges.{owner_told}
 use Rattle.lf_graph.specs.Room.{room_for_field, room_for_row}
@@ -27,7 +27,7 @@ use Rattle.lf_regions.specs.declared.region.Region.{Region}
 pub moved_there : (rows : List CountedRow) (regions : List Region) (s : State) (d : IsDomain rows regions s) (x : ObjId) (v : Value) (home : ObjId) (ms : List ObjId) → WritesInto s x v home ms → (os : List ObjId) → os ≡ ms
     → (o : ObjId) → has_name os o ≡ true → HasRow rows o
 moved_there rows regions s d x v home ms w os is o h =
-    row_there rows s.rows o Local ((d.counts).store).rows (moved_local s v (rows_in_place s d.well_formed).distinct o (sym (w.moves o) ∙ ap (λ l. has_name l o) (sym is) ∙ h))
+    has_row_by_owner rows s.rows o Local ((d.counts).store).rows (moved_local s v (rows_in_place s d.well_formed).distinct o (sym (w.moves o) ∙ ap (λ l. has_name l o) (sym is) ∙ h))
 
 -- a store with the same rows needs the same room
 pub room_kept : (rows new : List CountedRow) (x : ObjId) (k : Key) (ms : List ObjId) → SameByOwner new rows → NamesDiffer rows → plan_room new x k ms ≡ plan_room rows x k ms

@@ -1,6 +1,6 @@
 -- What a region owns by its rows is what it owns in the state; and a walk from bridges finds all regions below them.
-use Rattle.std.proofs.Common.{Bool, List, None, Option, Some, [], ap, cond, false, inl, inr, length, not, refl, slice_get, subst, sym, true, ℕ, ◌&&◌, ◌+◌, ◌++◌, ◌||◌, ◌∙◌, ◌∷◌, ◌≡◌, ◌⊎◌}
-use Rattle.std.proofs.lemmas.Bool.{false_from_ne_true}
+use Rattle.std.proofs.Common.{List, None, Option, Some, [], ap, cond, false, inl, inr, length, not, refl, slice_get, subst, sym, true, ℕ, ◌&&◌, ◌+◌, ◌++◌, ◌||◌, ◌∙◌, ◌∷◌, ◌≡◌, ◌⊎◌}
+use Rattle.std.proofs.lemmas.Bool.{and_parts, false_from_ne_true, or_cases}
 use Rattle.std.proofs.lemmas.List.{append-nil, append_assoc, length-append}
 use Rattle.std.proofs.Math.Bool.{or-false, or-true}
 use Rattle.std.specs.List.{list_any}
@@ -21,11 +21,11 @@ use Rattle.lf_base.proofs.NameLemmas.SameNames.{same_name_is, same_name_itself}
 use Rattle.lf_barrier.specs.Descents.{IsBelow, Looked, Passed, is_child, region_targets}
 use Rattle.lf_barrier.specs.MovingEdges.{fields_in, targets_in}
 use Rattle.lf_barrier.specs.Surveys.{is_other_bridge}
-use Rattle.lf_barrier.proofs.FieldLoops.{fields_told}
-use Rattle.lf_barrier.proofs.InsideWrite.{target_edge}
-use Rattle.lf_barrier.proofs.OwnedRegions.{named_here}
-use Rattle.lf_barrier.proofs.RowLoops.{head_there}
-use Rattle.lf_barrier.proofs.SurveyRows.{head_at, none_at}
+use Rattle.lf_barrier.proofs.MovingEdges.FieldLoops.{fields_told}
+use Rattle.lf_barrier.proofs.FieldWrites.InsideWrite.{target_edge}
+use Rattle.lf_barrier.proofs.Descents.OwnedRegions.{named_here}
+use Rattle.lf_barrier.proofs.MovingEdges.RowLoops.{head_there}
+use Rattle.lf_barrier.proofs.Surveys.SurveyRows.{head_at, none_at}
 use Rattle.lf_domain.specs.Counts.{IsDomain}
 use Rattle.lf_domain.proofs.NearCounts.{bridge_has_row}
 use Rattle.lf_domain.proofs.StoreEdges.{owner_told}
@@ -41,13 +41,9 @@ use Rattle.lf_regions.specs.declared.region.Region.{Region}
 use Rattle.lf_regions.specs.Regions.{has_region, owned_of}
 use Rattle.lf_regions.specs.TableCounts.{owns_region}
 
-both_true : (a b : Bool) → (a && b) ≡ true → (a ≡ true) × (b ≡ true)
-both_true true b e = (refl, e)
-both_true false b e = absurd (let z : false ≡ true = e in cc)
-
 child_bridge : (r o : ObjId) (w : Option Owner) → is_child r o w ≡ true → (w ≡ Some (In o)) × (same_name r o ≡ false)
 child_bridge r o (Some (In q)) e =
-    let p = both_true (same_name q o) (not (same_name r o)) e in
+    let p = and_parts (same_name q o) (not (same_name r o)) e in
     (ap (λ n. Some (In n)) (same_name_is q o p.0), false_from_ne_true _ (λ h. let z : false ≡ true = ap not (sym h) ∙ p.1 in cc))
 child_bridge r o (Some Local) e = absurd (let z : false ≡ true = e in cc)
 child_bridge r o (Some Frozen) e = absurd (let z : false ≡ true = e in cc)
@@ -110,10 +106,10 @@ module _ (rows : List CountedRow) (regions : List Region) (s : State) (d : IsDom
 
   pub owned_child : (r t : ObjId) → owns s r t ≡ true → Member t (region_targets rows r) × (is_child r t (owner_at rows t) ≡ true)
   owned_child r t h =
-      let p = both_true (not (same_name r t)) (is_bridge s.rows t && list_any (λ e. is_from s.rows r e.from && same_name e.to t) (edges s)) h in
-      let q = both_true (is_bridge s.rows t) (list_any (λ e. is_from s.rows r e.from && same_name e.to t) (edges s)) p.1 in
+      let p = and_parts (not (same_name r t)) (is_bridge s.rows t && list_any (λ e. is_from s.rows r e.from && same_name e.to t) (edges s)) h in
+      let q = and_parts (is_bridge s.rows t) (list_any (λ e. is_from s.rows r e.from && same_name e.to t) (edges s)) p.1 in
       let e = any_Member (λ e. is_from s.rows r e.from && same_name e.to t) (edges s) q.1 in
-      let z = both_true (is_from s.rows r (e.0).from) (same_name (e.0).to t) e.1.1 in
+      let z = and_parts (is_from s.rows r (e.0).from) (same_name (e.0).to t) e.1.1 in
       let source = from_region r (e.0).from z.0 in
       let to : (e.0).to ≡ t = same_name_is (e.0).to t z.1 in
       let targets : Member t (targets_in s.rows source.0) = subst (λ n. Member n (targets_in s.rows source.0)) to (in_rows e.0 source.0 (In r) e.1.0 source.1.0 source.1.1) in
@@ -132,15 +128,15 @@ module _ (rows : List CountedRow) (regions : List Region) (s : State) (d : IsDom
 
   owns_of : (e : Edge) (q home : ObjId) → same_name q home ≡ false → (is_from s.rows q e.from && same_name e.to home) ≡ true → owns_region s.rows home e ≡ true
   owns_of e q home n h =
-      let z = both_true (is_from s.rows q e.from) (same_name e.to home) h in
+      let z = and_parts (is_from s.rows q e.from) (same_name e.to home) h in
       let source = from_region q e.from z.0 in
       ap (λ f. is_owning s.rows f home && same_name e.to home) source.1.0 ∙ ap (λ w. is_in_other home w && same_name e.to home) source.1.1 ∙ ap (λ b. not b && same_name e.to home) n ∙ z.1
 
   pub not_below : (home : ObjId) → has_region regions home ≡ true → owned_of regions home ≡ false → (b : ObjId) → Above s b home → ⊥
   not_below home there free b above =
       let last = last_step b home above in
-      let p = both_true (not (same_name last.0 home)) (is_bridge s.rows home && list_any (λ e. is_from s.rows last.0 e.from && same_name e.to home) (edges s)) last.1 in
-      let q = both_true (is_bridge s.rows home) (list_any (λ e. is_from s.rows last.0 e.from && same_name e.to home) (edges s)) p.1 in
+      let p = and_parts (not (same_name last.0 home)) (is_bridge s.rows home && list_any (λ e. is_from s.rows last.0 e.from && same_name e.to home) (edges s)) last.1 in
+      let q = and_parts (is_bridge s.rows home) (list_any (λ e. is_from s.rows last.0 e.from && same_name e.to home) (edges s)) p.1 in
       let other : same_name last.0 home ≡ false = false_from_ne_true _ (λ h. let z : false ≡ true = ap not (sym h) ∙ p.0 in cc) in
       let owned : is_owned s home ≡ true = any_weaker (λ e. is_from s.rows last.0 e.from && same_name e.to home) (owns_region s.rows home) (edges s) (λ e m h. owns_of e last.0 home other h) q.1 in
       let is : is_owned s home ≡ owned_of regions home = near_owned s d.well_formed home (bridge_has_row s d.well_formed home q.0) ∙ sym (((d.counts).table).owned home q.0) in
@@ -172,7 +168,7 @@ module _ (rows : List CountedRow) (regions : List Region) (home : ObjId) (bridge
 
   not_home : (w : Option Owner) → is_other_bridge home home w ≡ true → ⊥
   not_home (Some (In q)) e =
-      let p = both_true (not (same_name home q)) (same_name q home) e in
+      let p = and_parts (not (same_name home q)) (same_name q home) e in
       let z : false ≡ true = ap not (sym (same_name_itself home)) ∙ ap (λ n. not (same_name home n)) (sym (same_name_is q home p.1)) ∙ p.0 in cc
   not_home (Some Local) e = let z : false ≡ true = e in cc
   not_home (Some Frozen) e = let z : false ≡ true = e in cc
@@ -228,7 +224,7 @@ module _ (rows : List CountedRow) (regions : List Region) (home : ObjId) (bridge
             | inl k ↦ g.reach s d t k
             | inr k ↦ let up = above_child s d t (child_owned rows regions s d r t k.0 k.1) in (up.0, (up.1.0, inr up.1.1))
           ];
-          closed = λ s d q t h o. elim (which (has_name g.done q) (has_name (r ∷ []) q) (sym (has_append g.done (r ∷ []) q) ∙ h)) as (λ _. has_name next t ≡ true) [
+          closed = λ s d q t h o. elim (or_cases (has_name g.done q) (has_name (r ∷ []) q) (sym (has_append g.done (r ∷ []) q) ∙ h)) as (λ _. has_name next t ≡ true) [
             | inl k ↦ kept t (g.closed s d q t k o)
             | inr k ↦
                 let same : r ≡ q = same_name_is r q (sym (or-false (same_name r q)) ∙ k) in
@@ -237,10 +233,7 @@ module _ (rows : List CountedRow) (regions : List Region) (home : ObjId) (bridge
           ];
           start = λ b h. kept b (g.start b h);
           apart = e.apart g.apart;
-        } where
-          which : (a b : Bool) → (a || b) ≡ true → (a ≡ true) ⊎ (b ≡ true)
-          which true b e = inl refl
-          which false b e = inr e
+        }
 
   pub home_not_found : (i : ℕ) (visited : List ObjId) → Descending i visited → None ≡ slice_get visited i → (s : State) → IsDomain rows regions s → IsBelow s bridges home false
   home_not_found i visited g none s d b h above =

@@ -38,8 +38,8 @@ fields_of_found (Some c) = refl
 pub fields_told : (rows : List CountedRow) (of : List Row) (o : ObjId) → AreRowsOf rows of → fields_at rows o ≡ fields_in of o
 fields_told rows of o a = fields_of_found (row_named rows o) ∙ ap row_fields (sym (found_of rows of o a))
 
-pub row_there : (rows : List CountedRow) (of : List Row) (o : ObjId) (w : Owner) → AreRowsOf rows of → owner_in of o ≡ Some w → HasRow rows o
-row_there rows of o w a k = owned_has_row rows o w (sym (owner_told rows of o a) ∙ k)
+pub has_row_by_owner : (rows : List CountedRow) (of : List Row) (o : ObjId) (w : Owner) → AreRowsOf rows of → owner_in of o ≡ Some w → HasRow rows o
+has_row_by_owner rows of o w a k = owned_has_row rows o w (sym (owner_told rows of o a) ∙ k)
 
 -- ---- a walk over fields
 -- the fields so far, of which that key is the last one's, are so many, and those are left
@@ -133,7 +133,7 @@ module _ (rows now : List CountedRow) (regions regions_now : List Region) (p : O
         rest = (uncount_tail).0;
         walk = walk_goes_on (fields_at rows p) (uncount_tail).0 (k, v) last turn (subst FieldKeysDiffer (sym (fields_told rows of p a)) (m.keys p))
             (subst (λ l. FieldWalk (fields_at rows p) l last turn) (uncount_tail).1 u.walk);
-        there = row_there next of p Local b m.local;
+        there = has_row_by_owner next of p Local b m.local;
         same = fields_told next of p b ∙ sym (fields_told rows of p a);
         left = counted;
       }
@@ -229,7 +229,7 @@ module _ (rows now : List CountedRow) (regions regions_now : List Region) (p hom
         rest = (count_tail).0;
         walk = walk_goes_on (fields_at rows p) (count_tail).0 (k, v) last turn (subst FieldKeysDiffer (sym (fields_told rows of p a)) (m.keys p))
             (subst (λ l. FieldWalk (fields_at rows p) l last turn) (count_tail).1 u.walk);
-        there = row_there next of p (In home) b m.inside;
+        there = has_row_by_owner next of p (In home) b m.inside;
         same = fields_told next of p b ∙ sym (fields_told rows of p a);
         so_far = λ of es m. counted_on next regions_next of es m (counted of es m);
       }
