@@ -6,3 +6,4 @@ pub mod FirstRefusal
 pub mod Answering
 pub mod CodeShape
 pub mod Following
+pub mod ValidOutput

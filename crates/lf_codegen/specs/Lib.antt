@@ -6,6 +6,7 @@ pub mod ScriptReading
 pub mod Exactly
 pub mod Numbers
 pub mod GeneratedCode
+pub mod TextsNamed
 pub mod Meaning
 pub mod RunOne
 pub mod Parts

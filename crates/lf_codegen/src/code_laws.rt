@@ -8,6 +8,8 @@ ghost use Rattle.lf_codegen.specs.GeneratedCode.{body_code, program_of};
 ghost use Rattle.lf_code.specs.Operations.{HasOperands};
 ghost use Rattle.lf_codegen.specs.Numbers.{PlainScript};
 ghost use Rattle.lf_code.specs.Ticked.{Ticked};
+ghost use Rattle.lf_code.specs.ValidCode.{ValidCode};
+ghost use Rattle.lf_codegen.specs.TextsNamed.{IsFitForCode};
 
 /// The code of each script does what the script's tree means, whatever the task and the ticks.
 pub fn code_means_tree()
@@ -22,4 +24,10 @@ pub fn code_is_ticked()
 /// Each address of a body that is reached has one number of operands, and enough of them.
 pub fn code_has_operands()
     ensures { (s : PlainScript) (vars : List Name) (k : PlainBlock) → HasOperands (body_code s vars k) }
+{}
+
+/// The code of a script is valid, where its names and calls are right, its texts are there, and
+/// no two `when`s stand on one line.
+pub fn code_is_valid()
+    ensures { (s : PlainScript) → IsFitForCode s → ValidCode (program_of s) }
 {}
