@@ -1,3 +1,4 @@
 pub mod TwoRegions
 pub mod SettledRows
 pub mod BarrierStates
+pub mod LocalChains

@@ -1,14 +1,13 @@
 -- The states of the trials of settling are well-formed, and what may be counted, written and unset there.
-use Rattle.std.proofs.Common.{List, None, Option, Some, [], ap, arith, cond, false, inl, inr, length, refl, subst, sym, true, ℕ, ◌<◌, ◌^◌, ◌∙◌, ◌∷◌, ◌≡◌, ◌≤◌}
+use Rattle.std.proofs.Common.{List, Some, [], arith, cond, false, inl, inr, length, refl, subst, sym, true, ℕ, ◌<◌, ◌^◌, ◌∙◌, ◌∷◌, ◌≡◌, ◌≤◌}
 use Rattle.std.specs.Option.{is_some}
 use Rattle.lf_base.specs.declared.ids.ObjId.{ObjId}
 use Rattle.lf_base.specs.declared.values.Key.{Key}
 use Rattle.lf_base.specs.declared.values.Owner.{Owner}
 use Rattle.lf_base.specs.declared.values.Owner.TheVariants.{In, Local}
-use Rattle.lf_base.specs.declared.values.Value.{Value}
 use Rattle.lf_base.specs.declared.values.Value.TheVariants.{Obj}
 use Rattle.lf_base.specs.EdgeLists.{SameEdges, near_edges}
-use Rattle.lf_base.specs.Edges.{Edge, Field, Slot, edges_by}
+use Rattle.lf_base.specs.Edges.{Edge, Field, Slot}
 use Rattle.lf_base.specs.Owners.{owner_in, owner_of}
 use Rattle.lf_base.specs.PlainChanges.{first_state, object_result}
 use Rattle.lf_base.specs.PlainState.{Row, State}

@@ -1,2 +1,3 @@
 pub mod TwoRegions
 pub mod SettledRows
+pub mod LocalChains

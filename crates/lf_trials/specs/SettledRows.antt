@@ -1,9 +1,8 @@
 -- States for trials of settling, with the slots and the fields that the calls of a trial make.
-use Rattle.std.specs.Prelude.{List, None, Option, Some, [], pos, ◌∷◌}
+use Rattle.std.specs.Prelude.{List, Some, [], pos, ◌∷◌}
 use Rattle.lf_base.specs.declared.ids.ObjId.{ObjId}
 use Rattle.lf_base.specs.declared.values.Key.{Key}
 use Rattle.lf_base.specs.declared.values.Key.TheVariants.{Int}
-use Rattle.lf_base.specs.declared.values.Value.{Value}
 use Rattle.lf_base.specs.declared.values.Value.TheVariants.{Obj}
 use Rattle.lf_base.specs.Edges.{Edge, Field, Slot}
 use Rattle.lf_base.specs.PlainChanges.{first_state, object_result, with_slots}

@@ -20,6 +20,7 @@ mod moved_regions;
 mod region_tests;
 #[cfg(test)]
 mod settle_tests;
+pub mod settled_chain;
 pub mod settled_rows;
 #[cfg(test)]
 mod store_tests;
