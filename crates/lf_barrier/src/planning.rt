@@ -15,7 +15,7 @@ ghost use Rattle.lf_graph.specs.StoredRows.{HasRow, SameByOwner, owner_at};
 use crate::descent::is_below;
 use crate::names::no_names;
 use crate::plan::WritePlan;
-use crate::survey::{Place, Survey, survey_write};
+use crate::survey::{Survey, WritePlace, survey_write};
 use indexmap::IndexSet;
 use lf_base::{Fault, HeapFail, Key, ObjId, Owner, Steps, Value};
 use lf_domain::target_of;
@@ -156,7 +156,14 @@ fn judge<S: Store, L: Ledger>(
         touched,
         inside,
         second,
-    } = survey_write(alloc, store, regions, Place { home, old }, value, steps)?;
+    } = survey_write(
+        alloc,
+        store,
+        regions,
+        WritePlace { home, old },
+        value,
+        steps,
+    )?;
     if inside {
         return Err(HeapFail::Fault(Fault::Interior));
     }

@@ -26,7 +26,7 @@ use std::sync::ledger::Ledger;
 /// The region into which a field is written, and the object to which the field refers
 /// so far.
 #[derive(Clone, Copy)]
-pub struct Place {
+pub struct WritePlace {
     pub home: ObjId,
     pub old: Option<ObjId>,
 }
@@ -72,7 +72,7 @@ impl Survey {
     fn touch(
         &mut self,
         regions: &RegionTable,
-        place: Place,
+        place: WritePlace,
         o: ObjId,
         r: ObjId,
     ) -> Result<(), OutOfMemory>
@@ -105,7 +105,7 @@ impl Survey {
         &mut self,
         store: &S,
         regions: &RegionTable,
-        place: Place,
+        place: WritePlace,
         o: ObjId,
         steps: &mut Steps<L>,
     ) -> Result<(), OutOfMemory>
@@ -130,7 +130,7 @@ impl Survey {
         &mut self,
         store: &S,
         regions: &RegionTable,
-        place: Place,
+        place: WritePlace,
         p: ObjId,
         steps: &mut Steps<L>,
     ) -> Result<(), OutOfMemory>
@@ -156,7 +156,7 @@ impl Survey {
         &mut self,
         store: &S,
         regions: &RegionTable,
-        place: Place,
+        place: WritePlace,
         v: Value,
         steps: &mut Steps<L>,
     ) -> Result<(), OutOfMemory>
@@ -179,7 +179,7 @@ pub fn survey_write<S: Store, L: Ledger>(
     alloc: Global,
     store: &S,
     regions: &RegionTable,
-    place: Place,
+    place: WritePlace,
     v: Value,
     steps: &mut Steps<L>,
 ) -> Result<Survey, OutOfMemory>

@@ -29,7 +29,7 @@ use Rattle.lf_barrier.specs.Descents.{IsBelow}
 use Rattle.lf_barrier.specs.Surveys.{IsSurvey, is_other_bridge, is_that, objects_touched, visits_of}
 use Rattle.lf_barrier.proofs.ContentCalls.{some_left}
 use Rattle.lf_barrier.proofs.MovingEdges.FieldLoops.{fields_told}
-use Rattle.lf_barrier.proofs.Surveys.SurveySteps.{touched_is}
+use Rattle.lf_barrier.proofs.Surveys.SurveySteps.{touched_is, zero_if_not_positive}
 use Rattle.lf_domain.specs.Counts.{IsDomain}
 use Rattle.lf_domain.proofs.EdgeTests.{count_cons}
 use Rattle.lf_domain.proofs.NearCounts.{bridge_has_row}
@@ -55,13 +55,10 @@ leads_by p f (o ∷ os) = omega (arith, count_cons (λ (e : Edge). p e.to) (reco
   one : count_by p (o ∷ []) ≡ cond (p o) 1 0
   one = elim (p o) as (λ c. 0 + cond c 1 0 ≡ cond c 1 0) [ true ↦ refl | false ↦ refl ]
 
-zero_by : (n : ℕ) → (0 < n → ⊥) → n ≡ 0
-zero_by n f = grind (arith, f)
-
 once_fits : (n c visits : ℕ) (owned that : Bool) → n ≤ 1 → ltb 0 n ≡ owned → c ≡ cond that 1 0 → visits ≤ 1 → (0 < visits → (owned && not that) ≡ false) → n + visits ≤ c + 1
-once_fits n c visits false that one e k most h = omega (arith, most, zero_by n (λ m. let z : true ≡ false = sym (lt-ltb 0 n m) ∙ e in cc))
+once_fits n c visits false that one e k most h = omega (arith, most, zero_if_not_positive n (λ m. let z : true ≡ false = sym (lt-ltb 0 n m) ∙ e in cc))
 once_fits n c visits true true one e k most h = omega (arith, one, k, most)
-once_fits n c visits true false one e k most h = omega (arith, one, zero_by visits (λ m. let z : true ≡ false = h m in cc))
+once_fits n c visits true false one e k most h = omega (arith, one, zero_if_not_positive visits (λ m. let z : true ≡ false = h m in cc))
 
 twice_fits : (n c visits : ℕ) (owned that : Bool) → ltb 0 n ≡ owned → c ≡ cond that 1 0 → c ≤ n → (1 < visits) ⊎ ((0 < visits) × ((owned && not that) ≡ true)) → c + 1 < n + visits
 twice_fits n c visits owned that e k less (inl m) = omega (arith, less, m)

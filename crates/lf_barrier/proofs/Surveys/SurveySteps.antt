@@ -62,6 +62,9 @@ pub grows_if : (b : Bool) (os : List ObjId) (o : ObjId) → (more : List ObjId) 
 grows_if true os o = elim (has_name os o) as (λ b. (more : List ObjId) × (cond b os (os ++ o ∷ []) ≡ os ++ more)) [ true ↦ ([], sym (append-nil os)) | false ↦ (o ∷ [], refl) ]
 grows_if false os o = ([], sym (append-nil os))
 
+pub zero_if_not_positive : (n : ℕ) → (0 < n → ⊥) → n ≡ 0
+zero_if_not_positive n f = grind (arith, f)
+
 count_more_one : (seen : List ObjId) (o b : ObjId) → visits_of (seen ++ o ∷ []) b ≡ visits_of seen b + cond (same_name o b) 1 0
 count_more_one seen o b = count_app (λ p. same_name p b) seen (o ∷ []) ∙ (elim (same_name o b) as (λ c. visits_of seen b + (0 + cond c 1 0) ≡ visits_of seen b + cond c 1 0) [ true ↦ omega arith | false ↦ omega arith ])
 
@@ -89,9 +92,7 @@ module _ (rows : List CountedRow) (regions : List Region) (home : ObjId) (old : 
   visited_if seen b h = some_any (λ p. same_name p b) seen h
 
   not_visited : (seen : List ObjId) (b : ObjId) → list_any (λ p. same_name p b) seen ≡ false → visits_of seen b ≡ 0
-  not_visited seen b h = go (visits_of seen b) (λ m. let z : true ≡ false = sym (any_some (λ p. same_name p b) seen m) ∙ h in cc) where
-    go : (n : ℕ) → (0 < n → ⊥) → n ≡ 0
-    go n f = grind (arith, f)
+  not_visited seen b h = zero_if_not_positive (visits_of seen b) (λ m. let z : true ≡ false = sym (any_some (λ p. same_name p b) seen m) ∙ h in cc)
 
   module _ (seen : List ObjId) (o : ObjId) (before after : Survey) (is : IsSurvey rows regions home old seen before) (v : Visits rows regions home old o before after) where
     -- whether the object was visited as such a bridge before
