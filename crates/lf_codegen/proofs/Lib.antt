@@ -6,4 +6,5 @@ pub mod FirstRefusal
 pub mod Answering
 pub mod CodeShape
 pub mod Following
+pub mod TextsOfTokens
 pub mod ValidOutput

@@ -1,13 +1,12 @@
--- The texts that expressions name as values, and when a script is fit for code.
--- What the body of a `when` names is no part of it, since that body is a frame of its own.
-use Rattle.std.specs.Prelude.{◌<◌, ltb, List, [], ◌∷◌, ◌++◌, length, map, Option, Some, None}
+-- The texts that the expressions of a tree name as values, and when a script is fit for code.
+use Rattle.std.specs.Prelude.{◌<◌, ltb, List, [], ◌∷◌, ◌++◌, length, map, flat_map, Option, Some, None}
 use Rattle.lf_base.specs.declared.ids.TextId.{TextId}
 use Rattle.lf_base.specs.Sets.{Member}
 use Rattle.lf_base.specs.Texts.{Text}
 use Rattle.lf_parser.specs.Ascending.{Ascending}
-use Rattle.lf_parser.specs.Plain.{PlainExpr, PlainArgs, PlainStmt, PlainBlock, PlainTree, no_args, arg, no_stmts, stmt}
+use Rattle.lf_parser.specs.Plain.{PlainExpr, PlainArgs, PlainStmt, PlainBlock, PlainFunction, PlainTree, no_args, arg, no_stmts, stmt}
 use Rattle.lf_parser.specs.Plain as plain
-use Rattle.lf_codegen.specs.Frames.{PlainFrame, frames, frame_line, when_frames}
+use Rattle.lf_codegen.specs.Frames.{frame_line, when_frames}
 use Rattle.lf_codegen.specs.NameRefusals.{Resolves}
 use Rattle.lf_codegen.specs.Numbers.{PlainScript}
 
@@ -48,15 +47,21 @@ abbrev mutual
   stmt_texts (plain.Eval line value) = expr_texts value
   stmt_texts (plain.If line test body other) = expr_texts test ++ (block_texts body ++ block_texts other)
   stmt_texts (plain.While line test body) = expr_texts test ++ block_texts body
-  stmt_texts (plain.When line cowns captures body) = []
+  stmt_texts (plain.When line cowns captures body) = block_texts body
 
   pub block_texts : PlainBlock → List TextId
   block_texts no_stmts = []
   block_texts (stmt s ss) = stmt_texts s ++ block_texts ss
 
--- each text that a frame of the tree names is one of these
+abbrev pub function_texts : PlainFunction → List TextId
+function_texts f = block_texts f.body
+
+abbrev pub tree_texts : PlainTree → List TextId
+tree_texts tree = flat_map function_texts tree.functions ++ block_texts tree.main
+
+-- each text that the tree names is one of these
 abbrev pub TextsAreThere : List Text → PlainTree → Type 0
-TextsAreThere texts tree = (f : PlainFrame) (t : TextId) → Member f (frames tree) → Member t (block_texts f.body) → t.index < length texts
+TextsAreThere texts tree = (t : TextId) → Member t (tree_texts tree) → t.index < length texts
 
 -- a script's names and calls are right, its texts are there, and no two `when`s stand on one line
 pub record IsFitForCode (s : PlainScript) : Type 0 where

@@ -38,7 +38,7 @@ first_once all r s once f g =
     one_passes (refused_here r.place) r s all (once r.place) f.is_there g.is_there (and_from _ _ (eq-eqb r.place.line r.place.line refl) (eq-eqb r.place.column r.place.column refl)) here
 
 -- ---- one script
-derives : (tokens : List Token) (tree : PlainTree) → parser.IsTree tokens tree → parser.Derives tokens tree
+pub derives : (tokens : List Token) (tree : PlainTree) → parser.IsTree tokens tree → parser.Derives tokens tree
 derives tokens tree h = let d = limits_levels tokens tree h.0 in (d.0, MOST_EXPRESSION_LEVELS, d.1)
 
 module _ (bytes : List ℕ) where

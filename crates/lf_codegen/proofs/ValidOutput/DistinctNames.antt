@@ -50,8 +50,7 @@ lists_differ x (y ∷ xs) ys d (inr m) = lists_differ x xs ys d.1 m
 new_differs : (xs : List Name) (x : Name) → NamesDiffer xs → is_among x.id xs ≡ false → NamesDiffer (xs ++ x ∷ [])
 new_differs [] x d h = (refl, tt)
 new_differs (y ∷ xs) x d h =
-    let apart : same_text y.id x.id ≡ false = same_text_sym y.id x.id ∙ or_first (same_text x.id y.id) (is_among x.id xs) h in
-    (
+    let apart : same_text y.id x.id ≡ false = same_text_sym y.id x.id ∙ or_first (same_text x.id y.id) (is_among x.id xs) h in (
       list_any-append (λ (z : Name). same_text y.id z.id) xs (x ∷ []) ∙ neither (is_among y.id xs) (same_text y.id x.id || false) d.0
           (neither (same_text y.id x.id) false apart refl),
       new_differs xs x d.1 (or_second (same_text x.id y.id) (is_among x.id xs) h),
@@ -128,15 +127,17 @@ or_same false false c e h = h
 
 among_next : (id : TextId) (names : List Name) (x : Name) (xs : List Name) → is_among id (names ++ x ∷ xs) ≡ true
     → is_among id (with_new_name names x ++ xs) ≡ true
-among_next id names x xs h = elim (is_among x.id names) as (λ b. is_among x.id names ≡ b → is_among id (cond b names (names ++ x ∷ []) ++ xs) ≡ true) [
+among_next id names x xs h = elim (is_among x.id names) as (λ b. is_among x.id names ≡ b → is_among id (cond b names
+    (names ++ x ∷ []) ++ xs) ≡ true) [
   | true ↦ λ e. list_any-append (λ (y : Name). same_text id y.id) names xs
       ∙ or_same (is_among id names) (same_text id x.id) (is_among id xs)
-        (sym (list_any-append (λ (y : Name). same_text id y.id) names (x ∷ [])) ∙ among_again id names x e)
-        (sym (list_any-append (λ (y : Name). same_text id y.id) names (x ∷ xs)) ∙ h)
+      (sym (list_any-append (λ (y : Name). same_text id y.id) names (x ∷ [])) ∙ among_again id names x e)
+      (sym (list_any-append (λ (y : Name). same_text id y.id) names (x ∷ xs)) ∙ h)
   | false ↦ λ e. ap (is_among id) (append_assoc names (x ∷ []) xs) ∙ h
 ] refl
 
-pub among_distinct : (id : TextId) (names xs : List Name) → is_among id (names ++ xs) ≡ true → is_among id (fold with_new_name names xs) ≡ true
+pub among_distinct : (id : TextId) (names xs : List Name) → is_among id (names ++ xs) ≡ true → is_among id (fold with_new_name names xs)
+    ≡ true
 among_distinct id names [] h = ap (is_among id) (sym (append-nil names)) ∙ h
 among_distinct id names (x ∷ xs) h = among_distinct id (with_new_name names x) xs (among_next id names x xs h)
 
@@ -160,7 +161,7 @@ unrepeated names (x ∷ xs) h = by (is_among x.id names) refl
         → fold with_new_name (with_new_name names x) xs ≡ names ++ x ∷ xs
     by true e k r =
         let refused : refusals_at (kind_where true DuplicateName) x ≡ [] =
-            ap (λ b. refusals_at (kind_where b DuplicateName) x) (sym e) ∙ r in
+        ap (λ b. refusals_at (kind_where b DuplicateName) x) (sym e) ∙ r in
         absurd cc
     by false e k r =
         let next : with_new_name names x ≡ names ++ x ∷ [] = ap (λ c. cond c names (names ++ x ∷ [])) e in

@@ -23,11 +23,13 @@ use Rattle.lf_codegen.specs.declared.mention.Mention.TheVariants.{Use, Bind, Cal
 use Rattle.lf_codegen.specs.Frames.{PlainFrame, is_among, distinct, stmt_whens, block_whens}
 use Rattle.lf_codegen.specs.GeneratedCode.{program_of, expr_code, args_code, stmt_code, block_code, call_code, branches_code}
 use Rattle.lf_codegen.specs.GeneratedCode.{round_code, joined_code, is_empty_block}
-use Rattle.lf_codegen.specs.Mentions.{args_count, is_variable, are_one_variable, expr_mentions, args_mentions, uses, stmt_mentions, block_mentions}
+use Rattle.lf_codegen.specs.Mentions.{args_count, is_variable, are_one_variable, expr_mentions, args_mentions, uses, stmt_mentions}
+use Rattle.lf_codegen.specs.Mentions.{block_mentions}
 use Rattle.lf_codegen.specs.Numbers.{PlainScript, called_of, asked_number, var_number, when_number, cown_names, capture_names}
 use Rattle.lf_codegen.specs.TextsNamed.{expr_texts, args_texts, stmt_texts, block_texts}
 use Rattle.lf_codegen.proofs.ValidOutput.CallsFit.{CallFits}
-use Rattle.lf_codegen.proofs.ValidOutput.DistinctNames.{NamesDiffer, distinct_differ, distinct_behind, behind_is, first_differ, last_differ, lists_differ, of_distinct}
+use Rattle.lf_codegen.proofs.ValidOutput.DistinctNames.{NamesDiffer, distinct_differ, distinct_behind, behind_is, first_differ, last_differ}
+use Rattle.lf_codegen.proofs.ValidOutput.DistinctNames.{lists_differ, of_distinct}
 use Rattle.lf_codegen.proofs.ValidOutput.VariableNumbers.{both, number_within, numbers_within, numbers_differ, numbers_apart}
 
 module _ (s : PlainScript) (vars : List Name) (addresses : ℕ) where
@@ -51,7 +53,7 @@ module _ (s : PlainScript) (vars : List Name) (addresses : ℕ) where
   fit_append [] ys f g = g
   fit_append (x ∷ xs) ys f g =
       both (fits_one x.instr) (fits (xs ++ ys)) (left_true (fits_one x.instr) (fits xs) f)
-          (fit_append xs ys (right_true (fits_one x.instr) (fits xs) f) g)
+      (fit_append xs ys (right_true (fits_one x.instr) (fits xs) f) g)
     where
       left_true : (a b : Bool) → (a && b) ≡ true → a ≡ true
       left_true true b h = refl
@@ -89,11 +91,11 @@ module _ (s : PlainScript) (vars : List Name) (addresses : ℕ) where
       let m = at + length left in
       let target = m + 1 + length right + 1 in
       joins at left _ f
-          (first m line (jump target) (right ++ on_line line instr.Test ∷ [])
-              (λ l. is_jump target
-                  ∙ jump_fits (m + suc (length (right ++ on_line line instr.Test ∷ []))) target
-                    (omega (arith, length-append right (on_line line instr.Test ∷ []))) l)
-              (joins (m + 1) right _ g (alone (m + 1 + length right) line instr.Test refl)))
+      (first m line (jump target) (right ++ on_line line instr.Test ∷ [])
+      (λ l. is_jump target
+      ∙ jump_fits (m + suc (length (right ++ on_line line instr.Test ∷ []))) target
+      (omega (arith, length-append right (on_line line instr.Test ∷ []))) l)
+      (joins (m + 1) right _ g (alone (m + 1 + length right) line instr.Test refl)))
 
   -- what is mentioned is there, and calls fit
   abbrev pub Good : Mention → Type 0
@@ -155,46 +157,50 @@ module _ (s : PlainScript) (vars : List Name) (addresses : ℕ) where
     expr_run (plain.Var x) line at h = alone at line (instr.Get (var_number vars x)) (number_within vars x (h.0 (Use x) (inl refl)))
     expr_run (plain.Field t k) line at h =
         let m = at + length (expr_code s vars t line at) in
-        joins at (expr_code s vars t line at) _ (expr_run t line at (front (expr_mentions t) (expr_mentions k) (expr_texts t) (expr_texts k) h))
-            (joins m (expr_code s vars k line m) _
-            (expr_run k line m (back (expr_mentions t) (expr_mentions k) (expr_texts t) (expr_texts k) h)) (alone _ line instr.Read refl))
+        joins at (expr_code s vars t line at) _ (expr_run t line at (front (expr_mentions t) (expr_mentions k) (expr_texts t)
+            (expr_texts k) h))
+        (joins m (expr_code s vars k line m) _
+        (expr_run k line m (back (expr_mentions t) (expr_mentions k) (expr_texts t) (expr_texts k) h)) (alone _ line instr.Read refl))
     expr_run (plain.Move x) line at h = alone at line (instr.Take (var_number vars x)) (number_within vars x (h.0 (Use x) (inl refl)))
     expr_run (plain.Remove t k) line at h =
         let m = at + length (expr_code s vars t line at) in
-        joins at (expr_code s vars t line at) _ (expr_run t line at (front (expr_mentions t) (expr_mentions k) (expr_texts t) (expr_texts k) h))
-            (joins m (expr_code s vars k line m) _
-            (expr_run k line m (back (expr_mentions t) (expr_mentions k) (expr_texts t) (expr_texts k) h)) (alone _ line instr.Remove refl))
+        joins at (expr_code s vars t line at) _ (expr_run t line at (front (expr_mentions t) (expr_mentions k) (expr_texts t)
+            (expr_texts k) h))
+        (joins m (expr_code s vars k line m) _
+        (expr_run k line m (back (expr_mentions t) (expr_mentions k) (expr_texts t) (expr_texts k) h)) (alone _ line instr.Remove refl))
     expr_run (plain.Neg e) line at h =
         joins at (expr_code s vars e line at) _ (expr_run e line at h) (alone _ line (instr.Unary Neg) refl)
     expr_run (plain.Not e) line at h =
         joins at (expr_code s vars e line at) _ (expr_run e line at h) (alone _ line (instr.Unary Not) refl)
     expr_run (plain.Binary op l r) line at h =
         let m = at + length (expr_code s vars l line at) in
-        joins at (expr_code s vars l line at) _ (expr_run l line at (front (expr_mentions l) (expr_mentions r) (expr_texts l) (expr_texts r) h))
-            (joins m (expr_code s vars r line m) _
-            (expr_run r line m (back (expr_mentions l) (expr_mentions r) (expr_texts l) (expr_texts r) h)) (alone _ line (instr.Binary op) refl))
+        joins at (expr_code s vars l line at) _ (expr_run l line at (front (expr_mentions l) (expr_mentions r) (expr_texts l)
+            (expr_texts r) h))
+        (joins m (expr_code s vars r line m) _
+        (expr_run r line m (back (expr_mentions l) (expr_mentions r) (expr_texts l) (expr_texts r) h)) (alone _ line
+            (instr.Binary op) refl))
     expr_run (plain.And l r) line at h =
         let m = at + length (expr_code s vars l line at) + 1 in
         joined_run instr.And line at (expr_code s vars l line at) (expr_code s vars r line m) (λ a. refl)
-            (expr_run l line at (front (expr_mentions l) (expr_mentions r) (expr_texts l) (expr_texts r) h))
-            (expr_run r line m (back (expr_mentions l) (expr_mentions r) (expr_texts l) (expr_texts r) h))
+        (expr_run l line at (front (expr_mentions l) (expr_mentions r) (expr_texts l) (expr_texts r) h))
+        (expr_run r line m (back (expr_mentions l) (expr_mentions r) (expr_texts l) (expr_texts r) h))
     expr_run (plain.Or l r) line at h =
         let m = at + length (expr_code s vars l line at) + 1 in
         joined_run instr.Or line at (expr_code s vars l line at) (expr_code s vars r line m) (λ a. refl)
-            (expr_run l line at (front (expr_mentions l) (expr_mentions r) (expr_texts l) (expr_texts r) h))
-            (expr_run r line m (back (expr_mentions l) (expr_mentions r) (expr_texts l) (expr_texts r) h))
+        (expr_run l line at (front (expr_mentions l) (expr_mentions r) (expr_texts l) (expr_texts r) h))
+        (expr_run r line m (back (expr_mentions l) (expr_mentions r) (expr_texts l) (expr_texts r) h))
     expr_run (plain.Call x es) line at h =
         let of_args : AllGood (args_mentions es) (args_texts es) = ((λ m k. h.0 m (inr k)), h.1) in
         call_run (called_of s x.id) es line at (args_code s vars es line at)
-            (h.0 (Call x (args_count es) (are_one_variable es)) (inl refl)) of_args (args_run es line at of_args)
+        (h.0 (Call x (args_count es) (are_one_variable es)) (inl refl)) of_args (args_run es line at of_args)
 
     args_run : (es : PlainArgs) (line at : ℕ) → AllGood (args_mentions es) (args_texts es) → Run at (args_code s vars es line at)
     args_run no_args line at h = nothing at
     args_run (arg e es) line at h =
         let m = at + length (expr_code s vars e line at) in
         joins at (expr_code s vars e line at) _
-            (expr_run e line at (front (expr_mentions e) (args_mentions es) (expr_texts e) (args_texts es) h))
-            (args_run es line m (back (expr_mentions e) (args_mentions es) (expr_texts e) (args_texts es) h))
+        (expr_run e line at (front (expr_mentions e) (args_mentions es) (expr_texts e) (args_texts es) h))
+        (args_run es line m (back (expr_mentions e) (args_mentions es) (expr_texts e) (args_texts es) h))
 
   -- ---- statements
   ticked : (at line : ℕ) (is : List Placed) → Run (at + 1) is → Run at (on_line line instr.Tick ∷ is)
@@ -209,24 +215,24 @@ module _ (s : PlainScript) (vars : List Name) (addresses : ℕ) where
       → Run past (branches_code none line past cy co)
   branches_run true line past cy co f g =
       first past line (instr.Unless (past + 1 + length cy)) cy
-          (λ l. jump_fits (past + suc (length cy)) (past + 1 + length cy) (omega arith) l) f
+      (λ l. jump_fits (past + suc (length cy)) (past + 1 + length cy) (omega arith) l) f
   branches_run false line past cy co f g =
       let target = past + 1 + length cy + 1 in
       let behind = on_line line (instr.Jump (target + length co)) ∷ co in
       first past line (instr.Unless target) (cy ++ behind)
-          (λ l. jump_before (past + suc (length (cy ++ behind))) target (length co) (omega (arith, length-append cy behind)) l)
-          (joins (past + 1) cy behind f
-          (first (past + 1 + length cy) line (instr.Jump (target + length co)) co
-          (λ l. jump_fits (past + 1 + length cy + suc (length co)) (target + length co) (omega arith) l) g))
+      (λ l. jump_before (past + suc (length (cy ++ behind))) target (length co) (omega (arith, length-append cy behind)) l)
+      (joins (past + 1) cy behind f
+      (first (past + 1 + length cy) line (instr.Jump (target + length co)) co
+      (λ l. jump_fits (past + 1 + length cy + suc (length co)) (target + length co) (omega arith) l) g))
 
   round_run : (line top past : ℕ) (ck : List Placed) → top < past → Run (past + 1) ck → Run past (round_code line top past ck)
   round_run line top past ck below f =
       let back_up = on_line line (instr.Jump top) ∷ [] in
       let target = past + 1 + length ck + 1 in
       first past line (instr.Unless target) (ck ++ back_up)
-          (λ l. jump_fits (past + suc (length (ck ++ back_up))) target (omega (arith, length-append ck back_up)) l)
-          (joins (past + 1) ck back_up f
-          (λ l. both (nat_lt top addresses) true (lt-ltb top addresses (omega (arith, below, l))) refl))
+      (λ l. jump_fits (past + suc (length (ck ++ back_up))) target (omega (arith, length-append ck back_up)) l)
+      (joins (past + 1) ck back_up f
+      (λ l. both (nat_lt top addresses) true (lt-ltb top addresses (omega (arith, below, l))) refl))
 
   -- the bodies of these `when`s have as many parameters as their names
   abbrev pub WhensFit : List PlainFrame → Type 0
@@ -236,7 +242,7 @@ module _ (s : PlainScript) (vars : List Name) (addresses : ℕ) where
   when_run : (line at : ℕ) (cowns captures : List Name) → ((x : Name) → Member x (cowns ++ captures) → is_among x.id vars ≡ true)
       → has_params (slice_get bodies (when_number s.tree line)) (length (distinct (cowns ++ captures))) ≡ true
       → fits_one (instr.When (when_number s.tree line) (map (var_number vars) (cown_names cowns))
-          (map (var_number vars) (capture_names cowns captures))) ≡ true
+      (map (var_number vars) (capture_names cowns captures))) ≡ true
   when_run line at cowns captures there params =
       let cs = distinct cowns in
       let ks = capture_names cowns captures in
@@ -245,11 +251,11 @@ module _ (s : PlainScript) (vars : List Name) (addresses : ℕ) where
       let whole : distinct (cowns ++ captures) ≡ cs ++ ks = parts.1 ∙ ap (λ l. cs ++ l) (sym ks_are) in
       let differ = subst NamesDiffer whole (distinct_differ (cowns ++ captures)) in
       let all_there : (x : Name) → Member x (cs ++ ks) → is_among x.id vars ≡ true =
-          λ x m. elim (of_distinct [] (cowns ++ captures) x (subst (Member x) (sym whole) m)) [ inl k ↦ absurd k | inr k ↦ there x k ] in
+      λ x m. elim (of_distinct [] (cowns ++ captures) x (subst (Member x) (sym whole) m)) [ inl k ↦ absurd k | inr k ↦ there x k ] in
       let cs_there : (x : Name) → Member x cs → is_among x.id vars ≡ true = λ x m. all_there x (Member_left x cs ks m) in
       let ks_there : (x : Name) → Member x ks → is_among x.id vars ≡ true = λ x m. all_there x (Member_right x cs ks m) in
       let count : length (distinct (cowns ++ captures)) ≡ length (map (var_number vars) cs) + length (map (var_number vars) ks) =
-          omega (arith, ap length whole, length-append cs ks, length-map cs (var_number vars), length-map ks (var_number vars)) in
+      omega (arith, ap length whole, length-append cs ks, length-map cs (var_number vars), length-map ks (var_number vars)) in
       both (in_range (length vars) (map (var_number vars) cs)) _ (numbers_within vars cs cs_there)
       (both (in_range (length vars) (map (var_number vars) ks)) _ (numbers_within vars ks ks_there)
       (both (all_differ (map (var_number vars) cs)) _ (numbers_differ vars cs cs_there (first_differ cs ks differ))
@@ -275,19 +281,20 @@ module _ (s : PlainScript) (vars : List Name) (addresses : ℕ) where
         let n = m + length (expr_code s vars k line m) in
         let of_rest = back (expr_mentions t) (expr_mentions k ++ expr_mentions e) (expr_texts t) (expr_texts k ++ expr_texts e) h in
         ticked at line _
-            (joins (at + 1) (expr_code s vars t line (at + 1)) _
-            (expr_run t line (at + 1) (front (expr_mentions t) (expr_mentions k ++ expr_mentions e) (expr_texts t) (expr_texts k ++ expr_texts e) h))
-            (joins m (expr_code s vars k line m) _
-            (expr_run k line m (front (expr_mentions k) (expr_mentions e) (expr_texts k) (expr_texts e) of_rest))
-            (joins n (expr_code s vars e line n) _
-            (expr_run e line n (back (expr_mentions k) (expr_mentions e) (expr_texts k) (expr_texts e) of_rest))
-            (alone _ line instr.Write refl))))
+        (joins (at + 1) (expr_code s vars t line (at + 1)) _
+        (expr_run t line (at + 1) (front (expr_mentions t) (expr_mentions k ++ expr_mentions e) (expr_texts t)
+            (expr_texts k ++ expr_texts e) h))
+        (joins m (expr_code s vars k line m) _
+        (expr_run k line m (front (expr_mentions k) (expr_mentions e) (expr_texts k) (expr_texts e) of_rest))
+        (joins n (expr_code s vars e line n) _
+        (expr_run e line n (back (expr_mentions k) (expr_mentions e) (expr_texts k) (expr_texts e) of_rest))
+        (alone _ line instr.Write refl))))
     stmt_run (plain.Drop line x) at h w =
         ticked at line (on_line line (instr.Drop (var_number vars x)) ∷ [])
-            (alone (at + 1) line (instr.Drop (var_number vars x)) (number_within vars x (h.0 (Use x) (inl refl))))
+        (alone (at + 1) line (instr.Drop (var_number vars x)) (number_within vars x (h.0 (Use x) (inl refl))))
     stmt_run (plain.Return line None) at h w =
         ticked at line (on_line line instr.None ∷ on_line line instr.Return ∷ [])
-            (first (at + 1) line instr.None (on_line line instr.Return ∷ []) (λ l. refl) (alone (at + 1 + 1) line instr.Return refl))
+        (first (at + 1) line instr.None (on_line line instr.Return ∷ []) (λ l. refl) (alone (at + 1 + 1) line instr.Return refl))
     stmt_run (plain.Return line (Some e)) at h w = with_last e line at instr.Return refl h
     stmt_run (plain.Pass line) at h w = alone at line instr.Tick refl
     stmt_run (plain.Eval line e) at h w = with_last e line at instr.Pop refl h
@@ -302,30 +309,30 @@ module _ (s : PlainScript) (vars : List Name) (addresses : ℕ) where
         let us = block_texts body ++ block_texts other in
         let of_rest = back ms ns ts us h in
         ticked at line _
-            (joins (at + 1) ce _ (expr_run e line (at + 1) (front ms ns ts us h))
-            (branches_run (is_empty_block other) line past cy co
-            (block_run body (past + 1) (front (block_mentions body) (block_mentions other) (block_texts body) (block_texts other) of_rest)
-                (λ f m. w f (Member_left f (block_whens body) (block_whens other) m)))
-            (block_run other (past + 1 + length cy + 1)
-                (back (block_mentions body) (block_mentions other) (block_texts body) (block_texts other) of_rest)
-                (λ f m. w f (Member_right f (block_whens body) (block_whens other) m)))))
+        (joins (at + 1) ce _ (expr_run e line (at + 1) (front ms ns ts us h))
+        (branches_run (is_empty_block other) line past cy co
+        (block_run body (past + 1) (front (block_mentions body) (block_mentions other) (block_texts body) (block_texts other) of_rest)
+        (λ f m. w f (Member_left f (block_whens body) (block_whens other) m)))
+        (block_run other (past + 1 + length cy + 1)
+        (back (block_mentions body) (block_mentions other) (block_texts body) (block_texts other) of_rest)
+        (λ f m. w f (Member_right f (block_whens body) (block_whens other) m)))))
     stmt_run (plain.While line e k) at h w =
         let ce = expr_code s vars e line (at + 1 + 1) in
         let past = at + 1 + 1 + length ce in
         let ck = block_code s vars k (past + 1) in
         ticked at line (on_line line instr.Tick ∷ (ce ++ round_code line (at + 1) past ck))
-            (ticked (at + 1) line (ce ++ round_code line (at + 1) past ck)
-            (joins (at + 1 + 1) ce (round_code line (at + 1) past ck)
-            (expr_run e line (at + 1 + 1) (front (expr_mentions e) (block_mentions k) (expr_texts e) (block_texts k) h))
-            (round_run line (at + 1) past ck (omega arith)
-            (block_run k (past + 1) (back (expr_mentions e) (block_mentions k) (expr_texts e) (block_texts k) h) w))))
+        (ticked (at + 1) line (ce ++ round_code line (at + 1) past ck)
+        (joins (at + 1 + 1) ce (round_code line (at + 1) past ck)
+        (expr_run e line (at + 1 + 1) (front (expr_mentions e) (block_mentions k) (expr_texts e) (block_texts k) h))
+        (round_run line (at + 1) past ck (omega arith)
+        (block_run k (past + 1) (back (expr_mentions e) (block_mentions k) (expr_texts e) (block_texts k) h) w))))
     stmt_run (plain.When line cowns captures k) at h w =
         let i = instr.When (when_number s.tree line) (map (var_number vars) (cown_names cowns))
-            (map (var_number vars) (capture_names cowns captures)) in
+        (map (var_number vars) (capture_names cowns captures)) in
         ticked at line (on_line line i ∷ [])
-            (alone (at + 1) line i
-            (when_run line at cowns captures (used cowns captures h.0)
-            (w (record { line = line; own = cowns ++ captures; body = k }) (inl refl))))
+        (alone (at + 1) line i
+        (when_run line at cowns captures (used cowns captures h.0)
+        (w (record { line = line; own = cowns ++ captures; body = k }) (inl refl))))
 
     pub block_run : (k : PlainBlock) (at : ℕ) → AllGood (block_mentions k) (block_texts k) → WhensFit (block_whens k)
         → Run at (block_code s vars k at)
@@ -333,6 +340,6 @@ module _ (s : PlainScript) (vars : List Name) (addresses : ℕ) where
     block_run (stmt st k) at h w =
         let ca = stmt_code s vars st at in
         joins at ca _ (stmt_run st at (front (stmt_mentions st) (block_mentions k) (stmt_texts st) (block_texts k) h)
-            (λ f m. w f (Member_left f (stmt_whens st) (block_whens k) m)))
-            (block_run k (at + length ca) (back (stmt_mentions st) (block_mentions k) (stmt_texts st) (block_texts k) h)
-            (λ f m. w f (Member_right f (stmt_whens st) (block_whens k) m)))
+        (λ f m. w f (Member_left f (stmt_whens st) (block_whens k) m)))
+        (block_run k (at + length ca) (back (stmt_mentions st) (block_mentions k) (stmt_texts st) (block_texts k) h)
+        (λ f m. w f (Member_right f (stmt_whens st) (block_whens k) m)))

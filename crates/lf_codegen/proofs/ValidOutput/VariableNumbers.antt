@@ -33,7 +33,7 @@ module _ (vars : List Name) where
   numbers_within [] h = refl
   numbers_within (x ∷ xs) h =
       both (nat_lt (var_number vars x) (length vars)) (in_range (length vars) (map (var_number vars) xs)) (number_within x (h x (inl refl)))
-          (numbers_within xs (λ y m. h y (inr m)))
+      (numbers_within xs (λ y m. h y (inr m)))
 
 -- names of one number are one
 one_name : (vars : List Name) (x y : Name) → is_among x.id vars ≡ true → is_among y.id vars ≡ true
@@ -75,18 +75,18 @@ module _ (vars : List Name) where
   number_apart x (y ∷ xs) p h d =
       let names_apart : same_text x.id y.id ≡ false = or_first (same_text x.id y.id) (is_among x.id xs) d in
       let apart : nat_eq (var_number vars x) (var_number vars y) ≡ false =
-          none_from (nat_eq (var_number vars x) (var_number vars y))
-          (λ e. let same = one_name vars x y p (h y (inl refl)) (eqb-true (var_number vars x) (var_number vars y) e) in absurd cc) in
+      none_from (nat_eq (var_number vars x) (var_number vars y))
+      (λ e. let same = one_name vars x y p (h y (inl refl)) (eqb-true (var_number vars x) (var_number vars y) e) in absurd cc) in
       neither (nat_eq (var_number vars x) (var_number vars y)) (list_any (nat_eq (var_number vars x)) (map (var_number vars) xs)) apart
-          (number_apart x xs p (λ z m. h z (inr m)) (or_second (same_text x.id y.id) (is_among x.id xs) d))
+      (number_apart x xs p (λ z m. h z (inr m)) (or_second (same_text x.id y.id) (is_among x.id xs) d))
 
   pub numbers_differ : (xs : List Name) → ((x : Name) → Member x xs → is_among x.id vars ≡ true) → NamesDiffer xs
       → all_differ (map (var_number vars) xs) ≡ true
   numbers_differ [] h d = refl
   numbers_differ (x ∷ xs) h d =
       both (not (list_any (nat_eq (var_number vars x)) (map (var_number vars) xs))) (all_differ (map (var_number vars) xs))
-          (ap not (number_apart x xs (h x (inl refl)) (λ y m. h y (inr m)) d.0))
-          (numbers_differ xs (λ y m. h y (inr m)) d.1)
+      (ap not (number_apart x xs (h x (inl refl)) (λ y m. h y (inr m)) d.0))
+      (numbers_differ xs (λ y m. h y (inr m)) d.1)
 
   pub numbers_apart : (xs ys : List Name) → ((x : Name) → Member x xs → is_among x.id vars ≡ true)
       → ((y : Name) → Member y ys → is_among y.id vars ≡ true) → ((x : Name) → Member x xs → is_among x.id ys ≡ false)
@@ -94,6 +94,6 @@ module _ (vars : List Name) where
   numbers_apart [] ys h k d = refl
   numbers_apart (x ∷ xs) ys h k d =
       both (not (list_any (nat_eq (var_number vars x)) (map (var_number vars) ys)))
-          (are_apart (map (var_number vars) xs) (map (var_number vars) ys))
-          (ap not (number_apart x ys (h x (inl refl)) k (d x (inl refl))))
-          (numbers_apart xs ys (λ z m. h z (inr m)) k (λ z m. d z (inr m)))
+      (are_apart (map (var_number vars) xs) (map (var_number vars) ys))
+      (ap not (number_apart x ys (h x (inl refl)) k (d x (inl refl))))
+      (numbers_apart xs ys (λ z m. h z (inr m)) k (λ z m. d z (inr m)))

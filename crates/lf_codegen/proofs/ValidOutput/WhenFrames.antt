@@ -4,7 +4,8 @@ use Rattle.std.proofs.Common.{Some, refl, ap, sym, subst, ◌∙◌, ◌⊎◌, 
 use Rattle.std.specs.List.{position_or_len}
 use Rattle.std.proofs.lemmas.Bool.{eq-eqb, ne_eqb, ltb-true}
 use Rattle.lf_base.specs.Sets.{Member}
-use Rattle.lf_base.proofs.ListLemmas.Members.{Member_map, Member_of_map, Member_flat_map, Member_left, Member_right, Member_of_append, Member_of_flat_map}
+use Rattle.lf_base.proofs.ListLemmas.Members.{Member_map, Member_of_map, Member_flat_map, Member_left, Member_right, Member_of_append}
+use Rattle.lf_base.proofs.ListLemmas.Members.{Member_of_flat_map}
 use Rattle.lf_parser.specs.Ascending.{Ascending}
 use Rattle.lf_parser.specs.Plain.{PlainStmt, PlainBlock, PlainFunction, PlainTree, no_stmts, stmt}
 use Rattle.lf_parser.specs.Plain as plain
@@ -82,7 +83,7 @@ module _ (tree : PlainTree) where
   of_frame : (f g : PlainFrame) → Member f (frames tree) → Member g (block_whens f.body) → Member g all_whens
   of_frame f g (inl e) k =
       Member_right g (flat_map function_whens tree.functions) (block_whens tree.main)
-          (subst (λ h. Member g (block_whens h.body)) (sym e) k)
+      (subst (λ h. Member g (block_whens h.body)) (sym e) k)
   of_frame f g (inr m) k = elim (Member_of_append f (map function_frame tree.functions) (when_frames tree) m) [
     | inl l ↦ let at = Member_of_map function_frame f tree.functions l in
         of_function at.0 g at.1.0 (subst (λ h. Member g (block_whens h.body)) (sym at.1.1) k)
@@ -100,12 +101,13 @@ when_at : (fs : List PlainFrame) (g : PlainFrame) → Ascending ltb (map frame_l
     → slice_get fs (position_or_len (λ f. eqb f.line g.line) fs) ≡ Some g
 when_at [] g a m = absurd m
 when_at (f ∷ fs) g a (inl e) =
-    ap (λ b. slice_get (f ∷ fs) (cond (not b) (1 + position_or_len (λ h. eqb h.line g.line) fs) 0)) (eq-eqb f.line g.line (ap (λ h. h.line) e))
+    ap (λ b. slice_get (f ∷ fs) (cond (not b) (1 + position_or_len (λ h. eqb h.line g.line) fs) 0)) (eq-eqb f.line g.line (ap
+        (λ h. h.line) e))
     ∙ ap Some e
 when_at (f ∷ fs) g a (inr m) =
     let below : f.line < g.line = ltb-true f.line g.line (a.0 g.line (Member_map frame_line g fs m)) in
     ap (λ b. slice_get (f ∷ fs) (cond (not b) (1 + position_or_len (λ h. eqb h.line g.line) fs) 0))
-        (ne_eqb f.line g.line (λ e. omega (arith, e, below)))
+    (ne_eqb f.line g.line (λ e. omega (arith, e, below)))
     ∙ behind_one f fs (position_or_len (λ h. eqb h.line g.line) fs) ∙ when_at fs g a.1 m
 
 module _ (s : PlainScript) where

@@ -7,7 +7,8 @@ use Rattle.std.proofs.lemmas.List.{length-append}
 use Rattle.lf_base.specs.declared.refusals.RefusalKind.{RefusalKind}
 use Rattle.lf_base.specs.Sets.{Member}
 use Rattle.lf_base.specs.Texts.{same_text}
-use Rattle.lf_base.proofs.ListLemmas.Members.{Member_left, Member_right, Member_map, Member_of_map, Member_of_append, Member_flat_map, Member_any}
+use Rattle.lf_base.proofs.ListLemmas.Members.{Member_left, Member_right, Member_map, Member_of_map, Member_of_append, Member_flat_map}
+use Rattle.lf_base.proofs.ListLemmas.Members.{Member_any}
 use Rattle.lf_parser.specs.declared.name.Name.{Name}
 use Rattle.lf_parser.specs.Plain.{PlainFunction}
 use Rattle.lf_code.specs.declared.body.Placed.{Placed}
@@ -18,13 +19,15 @@ use Rattle.lf_code.specs.ValidCode.{ValidCode, code_fits, bodies_fit, body_fits,
 use Rattle.lf_codegen.specs.declared.mention.Mention.{Mention}
 use Rattle.lf_codegen.specs.declared.mention.Mention.TheVariants.{Use, Bind, Call}
 use Rattle.lf_codegen.specs.Callees.{callee_of}
-use Rattle.lf_codegen.specs.Frames.{PlainFrame, frames, function_frame, when_frames, block_whens, is_among, distinct, variable_of, variables, bound}
+use Rattle.lf_codegen.specs.Frames.{PlainFrame, frames, function_frame, when_frames, block_whens, is_among, distinct, variable_of}
+use Rattle.lf_codegen.specs.Frames.{variables, bound}
 use Rattle.lf_codegen.specs.GeneratedCode.{program_of, generated_body, block_code, body_code}
 use Rattle.lf_codegen.specs.Mentions.{block_mentions}
 use Rattle.lf_codegen.specs.NameRefusals.{call_refusal, mention_refusals, frame_refusals, names_refusals, params_refusals, refusals_at}
 use Rattle.lf_codegen.specs.Numbers.{PlainScript, NamedFrame, named_frames, function_named, when_named}
 use Rattle.lf_codegen.specs.TextsNamed.{IsFitForCode, block_texts}
 use Rattle.lf_codegen.proofs.CodeShape.Depths.{body_has_operands}
+use Rattle.lf_codegen.proofs.TextsOfTokens.FrameTexts.{frame_texts}
 use Rattle.lf_codegen.proofs.ValidOutput.CallsFit.{call_fits}
 use Rattle.lf_codegen.proofs.ValidOutput.DistinctNames.{none_front, none_back, distinct_behind, among_distinct}
 use Rattle.lf_codegen.proofs.ValidOutput.FittingCode.{Good, AllGood, WhensFit, block_run, fit_append}
@@ -65,8 +68,8 @@ module _ (s : PlainScript) (fit : IsFitForCode s) where
       → mention_refusals s.texts s.tree.functions (bound f) m ≡ []
   mentions_right f k m l =
       none_of (mention_refusals s.texts s.tree.functions (bound f)) (block_mentions f.body) m
-          (none_of (frame_refusals s.texts s.tree.functions) (frames s.tree) f
-          (none_back (flat_map params_refusals s.tree.functions) _ behind_names) k) l
+      (none_of (frame_refusals s.texts s.tree.functions) (frames s.tree) f
+      (none_back (flat_map params_refusals s.tree.functions) _ behind_names) k) l
 
   variable_there : (f : PlainFrame) (m : Mention) (x : Name) → Member m (block_mentions f.body) → Member x (variable_of m)
       → is_among x.id (variables f) ≡ true
@@ -81,7 +84,7 @@ module _ (s : PlainScript) (fit : IsFitForCode s) where
   mention_good f k (Bind x) l = variable_there f (Bind x) x l (inl refl)
   mention_good f k (Call x count v) l =
       call_fits s params_right x.id count v
-          (no_kind (call_refusal (callee_of s.texts s.tree.functions x.id) count v) x (mentions_right f k (Call x count v) l))
+      (no_kind (call_refusal (callee_of s.texts s.tree.functions x.id) count v) x (mentions_right f k (Call x count v) l))
 
   params_within : (f : PlainFrame) → nat_le (length (distinct f.own)) (length (variables f)) ≡ true
   params_within f =
@@ -96,9 +99,9 @@ module _ (s : PlainScript) (fit : IsFitForCode s) where
       let code = block_code s vars f.body 0 in
       let list = code ++ body_end in
       let good : AllGood s vars (length list) (block_mentions f.body) (block_texts f.body) =
-          (mention_good f k, (λ t m. fit.texts_there f t k m)) in
+      (mention_good f k, (λ t m. fit.texts_there t (frame_texts s.tree f t k m))) in
       let whens : WhensFit s vars (length list) (block_whens f.body) =
-          (λ g m. when_has_params s g fit.whens_in_order (frame_whens s.tree f g k m)) in
+      (λ g m. when_has_params s g fit.whens_in_order (frame_whens s.tree f g k m)) in
       let run = block_run s vars (length list) f.body 0 good whens (omega (arith, length-append code body_end)) in
       both (nat_le (length (distinct f.own)) (length vars)) _ (params_within f)
       (both (ends_in_return list) _ (ends code) (fit_append s vars (length list) code body_end run refl))
@@ -108,7 +111,7 @@ module _ (s : PlainScript) (fit : IsFitForCode s) where
   all_fit [] h = refl
   all_fit (n ∷ ns) h =
       both (body_fits (program_of s).bodies (length s.texts) (generated_body s n)) _ (frame_fits n (h n (inl refl)))
-          (all_fit ns (λ m k. h m (inr k)))
+      (all_fit ns (λ m k. h m (inr k)))
 
   named_frame : (n : NamedFrame) → Member n (named_frames s.tree) → Member n.frame (frames s.tree)
   named_frame n (inl e) = inl (ap (λ m. m.frame) e)
@@ -118,7 +121,7 @@ module _ (s : PlainScript) (fit : IsFitForCode s) where
       elim (Member_of_append n (map function_named fs) (map when_named ws) m) [
         | inl k ↦ let at = Member_of_map function_named n fs k in
             inr (Member_left n.frame (map function_frame fs) ws
-                (subst (λ p. Member p.frame (map function_frame fs)) at.1.1 (Member_map function_frame at.0 fs at.1.0)))
+            (subst (λ p. Member p.frame (map function_frame fs)) at.1.1 (Member_map function_frame at.0 fs at.1.0)))
         | inr k ↦ let at = Member_of_map when_named n ws k in
             inr (Member_right n.frame (map function_frame fs) ws (subst (λ p. Member p.frame ws) at.1.1 at.1.0))
       ]
@@ -126,7 +129,7 @@ module _ (s : PlainScript) (fit : IsFitForCode s) where
   whole_fits : code_fits (program_of s).bodies (length s.texts) ≡ true
   whole_fits =
       both (has_params (slice_get (program_of s).bodies 0) 0) (bodies_fit (program_of s).bodies (length s.texts) (program_of s).bodies) refl
-          (all_fit (named_frames s.tree) named_frame)
+      (all_fit (named_frames s.tree) named_frame)
 
 each_has_operands : (s : PlainScript) (ns : List NamedFrame) → AllByRecursion (λ b. HasOperands b.list) (map (generated_body s) ns)
 each_has_operands s [] = tt
