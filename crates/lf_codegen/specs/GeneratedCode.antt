@@ -26,7 +26,7 @@ abbrev pub branches_code : Bool → ℕ → ℕ → List Placed → List Placed 
 branches_code true line past body other = on_line line (instr.Unless (past + 1 + length body)) ∷ body
 branches_code false line past body other =
     on_line line (instr.Unless (past + 1 + length body + 1)) ∷
-        (body ++ on_line line (instr.Jump (past + 1 + length body + 1 + length other)) ∷ other)
+    (body ++ on_line line (instr.Jump (past + 1 + length body + 1 + length other)) ∷ other)
 
 -- what follows a loop's test that ends before an address, back to the loop's own tick
 abbrev pub round_code : ℕ → ℕ → ℕ → List Placed → List Placed
@@ -96,15 +96,15 @@ module _ (s : PlainScript) (vars : List Name) where
         let ce = expr_code e line (at + 1) in
         let cy = block_code body (at + 1 + length ce + 1) in
         on_line line instr.Tick ∷ (ce ++ branches_code (is_empty_block other) line (at + 1 + length ce) cy
-            (block_code other (at + 1 + length ce + 1 + length cy + 1)))
+        (block_code other (at + 1 + length ce + 1 + length cy + 1)))
     stmt_code (plain.While line e body) at =
         let ce = expr_code e line (at + 1 + 1) in
         on_line line instr.Tick ∷ on_line line instr.Tick ∷
-            (ce ++ round_code line (at + 1) (at + 1 + 1 + length ce) (block_code body (at + 1 + 1 + length ce + 1)))
+        (ce ++ round_code line (at + 1) (at + 1 + 1 + length ce) (block_code body (at + 1 + 1 + length ce + 1)))
     stmt_code (plain.When line cowns captures body) at =
         on_line line instr.Tick
         ∷ on_line line (instr.When (when_number s.tree line) (map (var_number vars) (cown_names cowns))
-            (map (var_number vars) (capture_names cowns captures)))
+        (map (var_number vars) (capture_names cowns captures)))
         ∷ []
 
     pub block_code : PlainBlock → ℕ → List Placed

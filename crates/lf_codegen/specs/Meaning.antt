@@ -29,7 +29,7 @@ abbrev pub turns : ℕ → ℕ → (Progress → Flow) → (Progress → Flow) �
 turns zero line condition body c = fails line OutOfTicks c
 turns (suc k) line condition body c =
     (does line tick c ▷ condition) ▷ (λ d. by_truth (last_truth d) d (fails line Kind)
-        (λ e. body (without_operand e) ▷ turns k line condition body) (λ e. Next (without_operand e)))
+    (λ e. body (without_operand e) ▷ turns k line condition body) (λ e. Next (without_operand e)))
 
 module _ (s : PlainScript) (vars : List Name) (base : ℕ) (call : Callee) where
   -- the slot of a variable
@@ -63,10 +63,10 @@ module _ (s : PlainScript) (vars : List Name) (base : ℕ) (call : Callee) where
     expr_meaning (plain.Binary op l r) line c = (expr_meaning l line c ▷ expr_meaning r line) ▷ does line (on_state (binary_change op))
     expr_meaning (plain.And l r) line c =
         expr_meaning l line c ▷ (λ d. by_truth (last_truth d) d (fails line Kind)
-            (λ e. expr_meaning r line (without_operand e) ▷ does line test_truth) Next)
+        (λ e. expr_meaning r line (without_operand e) ▷ does line test_truth) Next)
     expr_meaning (plain.Or l r) line c =
         expr_meaning l line c ▷ (λ d. by_truth (last_truth d) d (fails line Kind) Next
-            (λ e. expr_meaning r line (without_operand e) ▷ does line test_truth))
+        (λ e. expr_meaning r line (without_operand e) ▷ does line test_truth))
     expr_meaning (plain.Call x es) line c = call_meaning (called_of s x.id) line es (args_meaning es line) c
 
     pub args_meaning : PlainArgs → ℕ → Progress → Flow
@@ -85,12 +85,12 @@ module _ (s : PlainScript) (vars : List Name) (base : ℕ) (call : Callee) where
     stmt_meaning (plain.Eval line e) c = (does line tick c ▷ expr_meaning e line) ▷ does line pop_value
     stmt_meaning (plain.If line e body other) c =
         (does line tick c ▷ expr_meaning e line) ▷ (λ d. by_truth (last_truth d) d (fails line Kind)
-            (λ e. block_meaning body (without_operand e)) (λ e. block_meaning other (without_operand e)))
+        (λ e. block_meaning body (without_operand e)) (λ e. block_meaning other (without_operand e)))
     stmt_meaning (plain.While line e body) c =
         does line tick c ▷ (λ d. turns (suc d.ticks) line (expr_meaning e line) (block_meaning body) d)
     stmt_meaning (plain.When line cowns captures body) c =
         does line tick c ▷ does line
-            (spawns_one (when_number s.tree line) (slots_of (cown_names cowns)) (slots_of (capture_names cowns captures)))
+        (spawns_one (when_number s.tree line) (slots_of (cown_names cowns)) (slots_of (capture_names cowns captures)))
 
     pub block_meaning : PlainBlock → Progress → Flow
     block_meaning no_stmts c = Next c
@@ -108,4 +108,4 @@ calls_within_frames s zero line body count c = does line no_frame_left c
 calls_within_frames s (suc k) line body count c =
     does line (enter (length (body_vars s body) - count)) c
     ▷ (λ d. frame_end (base_of count c)
-        (block_meaning s (body_vars s body) (base_of count c) (calls_within_frames s k) (body_block s body) d))
+    (block_meaning s (body_vars s body) (base_of count c) (calls_within_frames s k) (body_block s body) d))

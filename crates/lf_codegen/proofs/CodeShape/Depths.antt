@@ -162,19 +162,19 @@ module _ (t : List ℕ) where
     one_flows : (e : PlainExpr) → FlowsAll e → (line : ℕ) (i : Instr) (d a b : ℕ) → needs i ≡ 1 → leaves i ≡ 1
         → ((at rest : ℕ) → ways i at rest ≡ way (at + 1) (rest + leaves i) ∷ [])
         → Lie t a (expr_depths s e d ++ (d + 1) ∷ []) b → slice_get t b ≡ Some (d + 1)
-            → Flows t a (expr_code s vars e line a ++ on_line line i ∷ []) (expr_depths s e d ++ (d + 1) ∷ []) b
+        → Flows t a (expr_code s vars e line a ++ on_line line i ∷ []) (expr_depths s e d ++ (d + 1) ∷ []) b
     one_flows e go_e line i d a b n g on_way h last =
         let ds = expr_depths s e d in
         let f = go_e line d a (a + length ds) (lie_front t a b ds _ h) (lie_back t a b ds _ h).0 in
         joins a b (expr_code s vars e line a) _ ds _ f.0
-            (single line i (d + 1) (d + 1) _ b (on_way _ _) (omega (arith, n)) (omega (arith, n, g))
-            (behind a b (expr_code s vars e line a) ds _ f.0 h) last)
+        (single line i (d + 1) (d + 1) _ b (on_way _ _) (omega (arith, n)) (omega (arith, n, g))
+        (behind a b (expr_code s vars e line a) ds _ f.0 h) last)
 
     two_flows : (l r : PlainExpr) → FlowsAll l → FlowsAll r → (line : ℕ) (i : Instr) (d a b : ℕ) → needs i ≡ 2 → leaves i ≡ 1
         → ((at rest : ℕ) → ways i at rest ≡ way (at + 1) (rest + leaves i) ∷ [])
         → Lie t a (expr_depths s l d ++ (expr_depths s r (d + 1) ++ (d + 2) ∷ [])) b → slice_get t b ≡ Some (d + 1)
         → Flows t a (expr_code s vars l line a ++ (expr_code s vars r line (a + length (expr_code s vars l line a)) ++ on_line line i ∷ []))
-            (expr_depths s l d ++ (expr_depths s r (d + 1) ++ (d + 2) ∷ [])) b
+        (expr_depths s l d ++ (expr_depths s r (d + 1) ++ (d + 2) ∷ [])) b
     two_flows l r go_l go_r line i d a b n g on_way h last =
         let dl = expr_depths s l d in
         let dr = expr_depths s r (d + 1) in
@@ -187,16 +187,16 @@ module _ (t : List ℕ) where
         let two : d + 2 ≡ d + 1 + 1 = omega arith in
         let fr = go_r line (d + 1) m (m + length dr) (lie_front t m b dr _ hr) ((lie_back t m b dr _ hr).0 ∙ ap Some two) in
         joins a b cl _ dl _ fl.0
-          (joins m b cr _ dr _ fr.0 (single line i (d + 2) (d + 1) _ b (on_way _ _) (omega (arith, n)) (omega (arith, n, g))
-              (behind m b cr dr _ fr.0 hr) last))
+        (joins m b cr _ dr _ fr.0 (single line i (d + 2) (d + 1) _ b (on_way _ _) (omega (arith, n)) (omega (arith, n, g))
+        (behind m b cr dr _ fr.0 hr) last))
 
     -- `and` and `or`
     short_flows : (l r : PlainExpr) → FlowsAll l → FlowsAll r → (line : ℕ) (jump : ℕ → Instr) (d a b : ℕ) → ((n : ℕ) → needs (jump n) ≡ 1)
         → ((n at rest : ℕ) → ways (jump n) at rest ≡ way n (rest + 1) ∷ way (at + 1) rest ∷ [])
         → Lie t a (expr_depths s l d ++ (d + 1) ∷ (expr_depths s r d ++ (d + 1) ∷ [])) b → slice_get t b ≡ Some (d + 1)
         → Flows t a (joined_code jump line a (expr_code s vars l line a)
-            (expr_code s vars r line (a + length (expr_code s vars l line a) + 1)))
-            (expr_depths s l d ++ (d + 1) ∷ (expr_depths s r d ++ (d + 1) ∷ [])) b
+        (expr_code s vars r line (a + length (expr_code s vars l line a) + 1)))
+        (expr_depths s l d ++ (d + 1) ∷ (expr_depths s r d ++ (d + 1) ∷ [])) b
     short_flows l r go_l go_r line jump d a b n on_way h last =
         let dl = expr_depths s l d in
         let dr = expr_depths s r d in
@@ -208,18 +208,22 @@ module _ (t : List ℕ) where
         let hr : Lie t (m + 1) (dr ++ (d + 1) ∷ []) b = hm.1 in
         let fr = go_r line d (m + 1) (m + 1 + length dr) (lie_front t (m + 1) b dr _ hr) (lie_back t (m + 1) b dr _ hr).0 in
         let ft = single line instr.Test (d + 1) (d + 1) (m + 1 + length cr) b refl (omega arith) (omega arith)
-            (behind (m + 1) b cr dr _ fr.0 hr) last in
+        (behind (m + 1) b cr dr _ fr.0 hr) last in
         let rest : Flows t (m + 1) (cr ++ on_line line instr.Test ∷ []) (dr ++ (d + 1) ∷ []) b = joins (m + 1) b cr _ dr _ fr.0 ft in
         let target = m + 1 + length cr + 1 in
         let to_end : slice_get t target ≡ Some (d + 1 - 1 + 1) = let e : d + 1 ≡ d + 1 - 1 + 1 =
-            omega arith in ap (slice_get t) ft.1 ∙ last ∙ ap Some e in
+        omega arith in ap (slice_get t) ft.1 ∙ last ∙ ap Some e in
         let to_next : slice_get t (m + 1) ≡ Some (d + 1 - 1) = let e : d ≡ d + 1 - 1 =
-            omega arith in expr_first s t r d (m + 1) _ (lie_front t (m + 1) b dr _ hr) ∙ ap Some e in
-        joins a b cl _ dl _ fl.0
-          ((omega (arith, n target),
+        omega arith in expr_first s t r d (m + 1) _ (lie_front t (m + 1) b dr _ hr) ∙ ap Some e in
+        joins a b cl _ dl _ fl.0 (
+          (
+            omega (arith, n target),
             subst (λ k. AllWays t (ways (jump target) m (d + 1 - k))) (sym (n target))
                 (subst (AllWays t) (sym (on_way target m (d + 1 - 1))) (to_end, (to_next, tt))),
-            rest.0), omega (arith, rest.1))
+            rest.0,
+          ),
+          omega (arith, rest.1),
+        )
 
     abbrev ArgsFlow : PlainArgs → Type 0
     ArgsFlow es = (line d a b : ℕ) → Lie t a (args_depths s es d) b → slice_get t b ≡ Some (d + args_count es)
@@ -232,16 +236,16 @@ module _ (t : List ℕ) where
         let ds = args_depths s es d in
         let f = go_args line d a (a + length ds) (lie_front t a b ds _ h) (lie_back t a b ds _ h).0 in
         joins a b (args_code s vars es line a) _ ds _ f.0
-          (single line (instr.Built name (args_count es)) (d + args_count es) (d + 1) (a + length (args_code s vars es line a)) b refl
-              (omega arith) (omega arith) (behind a b (args_code s vars es line a) ds _ f.0 h) last)
+        (single line (instr.Built name (args_count es)) (d + args_count es) (d + 1) (a + length (args_code s vars es line a)) b refl
+        (omega arith) (omega arith) (behind a b (args_code s vars es line a) ds _ f.0 h) last)
     call_flows (Question name) es go_args line d a b h last =
         single line (instr.Ask name (asked_number vars es)) d (d + 1) a b refl (omega arith) (omega arith) h last
     call_flows (Function body) es go_args line d a b h last =
         let ds = args_depths s es d in
         let f = go_args line d a (a + length ds) (lie_front t a b ds _ h) (lie_back t a b ds _ h).0 in
         joins a b (args_code s vars es line a) _ ds _ f.0
-          (single line (instr.Call body (args_count es)) (d + args_count es) (d + 1) (a + length (args_code s vars es line a)) b refl
-              (omega arith) (omega arith) (behind a b (args_code s vars es line a) ds _ f.0 h) last)
+        (single line (instr.Call body (args_count es)) (d + args_count es) (d + 1) (a + length (args_code s vars es line a)) b refl
+        (omega arith) (omega arith) (behind a b (args_code s vars es line a) ds _ f.0 h) last)
 
     mutual
       expr_flows : (e : PlainExpr) → FlowsAll e
@@ -278,11 +282,11 @@ module _ (t : List ℕ) where
           let more : d + suc (args_count es) ≡ d + 1 + args_count es = omega arith in
           let last' : slice_get t b ≡ Some (d + 1 + args_count es) = last ∙ ap Some more in
           let f = expr_flows e line d a (a + length ds) (lie_front t a b ds _ h)
-              (args_first s t es (d + 1) (a + length ds) b (lie_back t a b ds _ h) last') in
+          (args_first s t es (d + 1) (a + length ds) b (lie_back t a b ds _ h) last') in
           let g = args_flow es line (d + 1) (a + length (expr_code s vars e line a)) b
-              (behind a b (expr_code s vars e line a) ds _ f.0 h) last' in
+          (behind a b (expr_code s vars e line a) ds _ f.0 h) last' in
           joins a b (expr_code s vars e line a) (args_code s vars es line (a + length (expr_code s vars e line a))) ds
-              (args_depths s es (d + 1)) f.0 g
+          (args_depths s es (d + 1)) f.0 g
 
 -- what follows a test
 abbrev branches_depths : Bool → List ℕ → List ℕ → List ℕ
@@ -334,7 +338,7 @@ module _ (s : PlainScript) where
     taken : (e : PlainExpr) (line : ℕ) (i : Instr) (a b : ℕ) → needs i ≡ 1
         → ((at rest : ℕ) → (ways i at rest ≡ way (at + 1) (rest + 0) ∷ []) ⊎ (ways i at rest ≡ []))
         → Lie t a (expr_depths s e 0 ++ 1 ∷ []) b → slice_get t b ≡ Some 0
-            → Flows t a (expr_code s vars e line a ++ on_line line i ∷ []) (expr_depths s e 0 ++ 1 ∷ []) b
+        → Flows t a (expr_code s vars e line a ++ on_line line i ∷ []) (expr_depths s e 0 ++ 1 ∷ []) b
     taken e line i a b n on_way h last =
         let ds = expr_depths s e 0 in
         let ce = expr_code s vars e line a in
@@ -365,17 +369,17 @@ module _ (s : PlainScript) where
         let ce = expr_code s vars e line n in
         let behind_x0 = lie_back t (a + 1) b dx _ h.1 in
         let fx = expr_flows t s vars x line 0 (a + 1) (a + 1 + length dx) (lie_front t (a + 1) b dx _ h.1)
-            (expr_first s t k 1 _ _ (lie_front t (a + 1 + length dx) b dk _ behind_x0)) in
+        (expr_first s t k 1 _ _ (lie_front t (a + 1 + length dx) b dk _ behind_x0)) in
         let hk = behind t (a + 1) b cx dx _ fx.0 h.1 in
         let fk = expr_flows t s vars k line 1 m (m + length dk) (lie_front t m b dk _ hk)
-            (expr_first s t e 2 _ _ (lie_front t (m + length dk) b de _ (lie_back t m b dk _ hk))) in
+        (expr_first s t e 2 _ _ (lie_front t (m + length dk) b de _ (lie_back t m b dk _ hk))) in
         let he = behind t m b ck dk _ fk.0 hk in
         let fe = expr_flows t s vars e line 2 n (n + length de) (lie_front t n b de _ he) (lie_back t n b de _ he).0 in
         let hw = behind t n b ce de _ fe.0 he in
         ticked line a b _ _ (expr_at x (a + 1) b _ h.1)
-          (joins t (a + 1) b cx _ dx _ fx.0
-              (joins t m b ck _ dk _ fk.0 (joins t n b ce _ de _ fe.0
-              (single t line instr.Write 3 0 (n + length ce) b refl (omega arith) refl hw last))))
+        (joins t (a + 1) b cx _ dx _ fx.0
+        (joins t m b ck _ dk _ fk.0 (joins t n b ce _ de _ fe.0
+        (single t line instr.Write 3 0 (n + length ce) b refl (omega arith) refl hw last))))
 
     abbrev BlockFlows : PlainBlock → Type 0
     BlockFlows k = (a b : ℕ) → Lie t a (block_depths k) b → slice_get t b ≡ Some 0 → Flows t a (block_code s vars k a) (block_depths k) b
@@ -385,8 +389,8 @@ module _ (s : PlainScript) where
         → (none ≡ true → block_depths other ≡ [])
         → Lie t past (branches_depths none (block_depths body) (block_depths other)) b → slice_get t b ≡ Some 0
         → Flows t past (branches_code none line past (block_code s vars body (past + 1))
-            (block_code s vars other (past + 1 + length (block_code s vars body (past + 1)) + 1)))
-            (branches_depths none (block_depths body) (block_depths other)) b
+        (block_code s vars other (past + 1 + length (block_code s vars body (past + 1)) + 1)))
+        (branches_depths none (block_depths body) (block_depths other)) b
     branches_flow true line past b body other go_body go_other quiet h last =
         let f = go_body (past + 1) b h.1 last in
         ((omega arith, (ap (slice_get t) f.1 ∙ last, (block_first t body (past + 1) b h.1 last, tt)), f.0), omega (arith, f.1))
@@ -401,10 +405,18 @@ module _ (s : PlainScript) where
         let co = block_code s vars other (j + 1) in
         let g = go_other (j + 1) b hj.1 last in
         let jump : Flows t j (on_line line (instr.Jump (j + 1 + length co)) ∷ co) (0 ∷ block_depths other) b =
-            ((omega arith, (ap (slice_get t) g.1 ∙ last, tt), g.0), omega (arith, g.1)) in
-        let whole = joins t (past + 1) b cy (on_line line (instr.Jump (j + 1 + length co)) ∷ co) dy (0 ∷ block_depths other) f.0 jump in
-        ((omega arith, (block_first t other (j + 1) b hj.1 last,
-            (block_first t body (past + 1) m (lie_front t (past + 1) b dy _ h.1) jump_at.0, tt)), whole.0), omega (arith, whole.1))
+        ((omega arith, (ap (slice_get t) g.1 ∙ last, tt), g.0), omega (arith, g.1)) in
+        let whole = joins t (past + 1) b cy (on_line line (instr.Jump (j + 1 + length co)) ∷ co) dy (0 ∷ block_depths other) f.0 jump in (
+          (
+            omega arith,
+            (
+              block_first t other (j + 1) b hj.1 last,
+              (block_first t body (past + 1) m (lie_front t (past + 1) b dy _ h.1) jump_at.0, tt),
+            ),
+            whole.0,
+          ),
+          omega (arith, whole.1),
+        )
 
     empty_depths : (k : PlainBlock) → is_empty_block k ≡ true → block_depths k ≡ []
     empty_depths no_stmts h = refl
@@ -421,9 +433,9 @@ module _ (s : PlainScript) where
         let ds = expr_depths s e 0 in
         let ce = expr_code s vars e line (a + 1) in
         let f = expr_flows t s vars e line 0 (a + 1) (a + 1 + length ds) (lie_front t (a + 1) b ds _ h.1)
-            (branches_first (is_empty_block other) _ _ _ b (lie_back t (a + 1) b ds _ h.1)) in
+        (branches_first (is_empty_block other) _ _ _ b (lie_back t (a + 1) b ds _ h.1)) in
         let g = branches_flow (is_empty_block other) line (a + 1 + length ce) b body other go_body go_other (empty_depths other)
-            (behind t (a + 1) b ce ds _ f.0 h.1) last in
+        (behind t (a + 1) b ce ds _ f.0 h.1) last in
         ticked line a b _ _ (expr_at e (a + 1) b _ h.1) (joins t (a + 1) b ce _ ds _ f.0 g)
 
     while_flows : (e : PlainExpr) (k : PlainBlock) → BlockFlows k → (line a b : ℕ) → Lie t a (stmt_depths (plain.While line e k)) b
@@ -436,23 +448,32 @@ module _ (s : PlainScript) where
         let past = a + 1 + 1 + length ce in
         let ck = block_code s vars k (past + 1) in
         let f = expr_flows t s vars e line 0 (a + 1 + 1) (a + 1 + 1 + length ds) (lie_front t (a + 1 + 1) b ds _ h.1.1)
-            (lie_back t (a + 1 + 1) b ds _ h.1.1).0 in
+        (lie_back t (a + 1 + 1) b ds _ h.1.1).0 in
         let hu : Lie t past (1 ∷ (dk ++ 0 ∷ [])) b = behind t (a + 1 + 1) b ce ds _ f.0 h.1.1 in
         let hb : Lie t (past + 1) (dk ++ 0 ∷ []) b = hu.1 in
         let jump_at = lie_back t (past + 1) b dk _ hb in
         let g = go (past + 1) (past + 1 + length dk) (lie_front t (past + 1) b dk _ hb) jump_at.0 in
         let hj = behind t (past + 1) b ck dk _ g.0 hb in
         let jump : Flows t (past + 1 + length ck) (on_line line (instr.Jump (a + 1)) ∷ []) (0 ∷ []) b =
-            ((omega arith, (h.1.0, tt), tt), hj.1) in
+        ((omega arith, (h.1.0, tt), tt), hj.1) in
         let rest : Flows t (past + 1) (ck ++ on_line line (instr.Jump (a + 1)) ∷ []) (dk ++ 0 ∷ []) b =
-            joins t (past + 1) b ck _ dk _ g.0 jump in
-        let top : Flows t past (round_code line (a + 1) past ck) (1 ∷ (dk ++ 0 ∷ [])) b =
-              ((omega arith, (ap (slice_get t) hj.1
-                  ∙ last, (block_first t k (past + 1) _ (lie_front t (past + 1) b dk _ hb) jump_at.0, tt)), rest.0), omega
-                  (arith, rest.1)) in
+        joins t (past + 1) b ck _ dk _ g.0 jump in
+        let top : Flows t past (round_code line (a + 1) past ck) (1 ∷ (dk ++ 0 ∷ [])) b = (
+          (
+            omega arith,
+            (
+              ap (slice_get t) hj.1
+                  ∙ last,
+              (block_first t k (past + 1) _ (lie_front t (past + 1) b dk _ hb) jump_at.0, tt),
+            ),
+            rest.0,
+          ),
+          omega
+              (arith, rest.1),
+        ) in
         ticked line a b (on_line line instr.Tick ∷ (ce ++ round_code line (a + 1) past ck)) (0 ∷ (ds ++ 1 ∷ (dk ++ 0 ∷ []))) h.1.0
-            (ticked line (a + 1) b (ce ++ round_code line (a + 1) past ck) (ds ++ 1 ∷ (dk ++ 0 ∷ [])) (expr_at e (a + 1 + 1) b _ h.1.1)
-            (joins t (a + 1 + 1) b ce _ ds _ f.0 top))
+        (ticked line (a + 1) b (ce ++ round_code line (a + 1) past ck) (ds ++ 1 ∷ (dk ++ 0 ∷ [])) (expr_at e (a + 1 + 1) b _ h.1.1)
+        (joins t (a + 1 + 1) b ce _ ds _ f.0 top))
 
     mutual
       stmt_flows : (st : PlainStmt) (a b : ℕ) → Lie t a (stmt_depths st) b → slice_get t b ≡ Some 0
@@ -466,7 +487,7 @@ module _ (s : PlainScript) where
           (single t line (instr.Drop (var_number vars x)) 0 0 (a + 1) b refl (omega arith) refl h.1 last)
       stmt_flows (plain.Return line None) a b h last =
           ticked line a b (on_line line instr.None ∷ on_line line instr.Return ∷ []) (0 ∷ 1 ∷ []) h.1.0
-              ((omega arith, (h.1.1.0, tt), (omega arith, tt, tt)), omega (arith, h.1.1.1))
+          ((omega arith, (h.1.1.0, tt), (omega arith, tt, tt)), omega (arith, h.1.1.1))
       stmt_flows (plain.Return line (Some e)) a b h last =
           ticked line a b _ _ (expr_at e (a + 1) b _ h.1) (taken e line instr.Return (a + 1) b refl (λ at rest. inr refl) h.1 last)
       stmt_flows (plain.Pass line) a b h last = single t line instr.Tick 0 0 a b refl (omega arith) refl h last
@@ -476,7 +497,7 @@ module _ (s : PlainScript) where
       stmt_flows (plain.While line e k) a b h last = while_flows e k (block_flows k) line a b h last
       stmt_flows (plain.When line cowns captures k) a b h last =
           let i = instr.When (when_number s.tree line) (map (var_number vars) (cown_names cowns))
-              (map (var_number vars) (capture_names cowns captures)) in
+          (map (var_number vars) (capture_names cowns captures)) in
           ticked line a b (on_line line i ∷ []) (0 ∷ []) h.1.0 (single t line i 0 0 (a + 1) b refl (omega arith) refl h.1 last)
 
       block_flows : (k : PlainBlock) (a b : ℕ) → Lie t a (block_depths k) b → slice_get t b ≡ Some 0
@@ -486,9 +507,9 @@ module _ (s : PlainScript) where
           let ds = stmt_depths st in
           let ca = stmt_code s vars st a in
           let f = stmt_flows st a (a + length ds) (lie_front t a b ds _ h)
-              (block_first t k (a + length ds) b (lie_back t a b ds _ h) last) in
+          (block_first t k (a + length ds) b (lie_back t a b ds _ h) last) in
           joins t a b ca (block_code s vars k (a + length ca)) ds (block_depths k) f.0
-              (block_flows k (a + length ca) b (behind t a b ca ds (block_depths k) f.0 h) last)
+          (block_flows k (a + length ca) b (behind t a b ca ds (block_depths k) f.0 h) last)
 
   -- the operands at each address of a body
   abbrev body_depths : PlainBlock → List ℕ
@@ -514,11 +535,12 @@ flow_at t a (x ∷ xs) [] k d i f g h = absurd f
 flow_at t a (x ∷ xs) (e ∷ es) zero d i f g h =
     let same : x ≡ i = cc in
     let equal : e ≡ d = cc in
-    let z : a ≡ a + 0 = omega arith in
-    (subst (λ n. needs i.instr ≤ n) equal (subst (λ j. needs j.instr ≤ e) same f.0),
+    let z : a ≡ a + 0 = omega arith in (
+      subst (λ n. needs i.instr ≤ n) equal (subst (λ j. needs j.instr ≤ e) same f.0),
       subst (λ n. AllWays t (ways i.instr n (d - needs i.instr))) z
           (subst (λ n. AllWays t (ways i.instr a (n - needs i.instr))) equal
-          (subst (λ j. AllWays t (ways j.instr a (e - needs j.instr))) same f.1)))
+          (subst (λ j. AllWays t (ways j.instr a (e - needs j.instr))) same f.1)),
+    )
 flow_at t a (x ∷ xs) (e ∷ es) (suc k) d i f g h =
     let r = flow_at t (a + 1) xs es k d i f.2 g h in
     let z : a + 1 + k ≡ a + suc k = omega arith in
@@ -560,4 +582,4 @@ body_has_operands s vars k =
     let rest = behind t 0 (length t) ck dk (0 ∷ 1 ∷ []) f.0 h in
     let ends : Fits t (0 + length ck) body_end (0 ∷ 1 ∷ []) = (omega arith, (rest.1.0, tt), (omega arith, tt, tt)) in
     has_operands t (body_code s vars k) (flow_join t 0 ck body_end dk (0 ∷ 1 ∷ []) f.0 ends)
-      (block_first s t k 0 (0 + length dk) (lie_front t 0 (length t) dk (0 ∷ 1 ∷ []) h) tail.0)
+    (block_first s t k 0 (0 + length dk) (lie_front t 0 (length t) dk (0 ∷ 1 ∷ []) h) tail.0)

@@ -19,7 +19,6 @@ use Rattle.lf_codegen.proofs.Following.Runs.{ConfigLeads, CallsLead, both, block
 use Rattle.lf_base.specs.Operands.{pushed}
 use Rattle.lf_code.specs.Actions.{base_of, enter, leave, no_frame_left, push_value}
 
-
 shifted : (y : Placed) (ys : List Placed) (a b : ℕ) (xs : List Placed) → CodeStandsAt ys a xs b → CodeStandsAt (y ∷ ys) (a + 1) xs (b + 1)
 shifted y ys a b [] h = ap (λ n. n + 1) h
 shifted y ys a b (x ∷ xs) h =
@@ -81,19 +80,19 @@ module _ (s : PlainScript) where
       let g : Frame = record { body = body; at = end_at body + 1; base = base } in
       let d : Progress = record c { state = pushed (Some value.None) c.state } in
       on p h (on p (one p f fs c 0 instr.None (Running g fs d) (end_stands body).0 refl)
-          (one p g fs d 0 instr.Return (returned fs (leave base d)) (end_stands body).1.0 refl))
+      (one p g fs d 0 instr.Return (returned fs (leave base d)) (end_stands body).1.0 refl))
   ended body base fs x back (Return c) h = h
   ended body base fs x back (Fails c at) h = h
 
   entered : (k body base : ℕ) (fs : List Frame) (d : Progress) (back : Progress → Config)
       → CallsLead p (calls_within_frames s k) (frames_left fs)
       → ConfigLeads p (Running (new_frame body base) fs d) (λ c. returned fs c) back
-          (frame_end base (block_meaning s (body_vars s body) base (calls_within_frames s k) (body_block s body) d))
+      (frame_end base (block_meaning s (body_vars s body) base (calls_within_frames s k) (body_block s body) d))
   entered k body base fs d back lead =
       ended body base fs (Running (new_frame body base) fs d) back
-          (block_meaning s (body_vars s body) base (calls_within_frames s k) (body_block s body) d)
-        (block_runs s (body_vars s body) (calls_within_frames s k) (calls_within s k) p refl body base fs lead (body_block s body) 0
-            (end_at body) d (block_stands body))
+      (block_meaning s (body_vars s body) base (calls_within_frames s k) (body_block s body) d)
+      (block_runs s (body_vars s body) (calls_within_frames s k) (calls_within s k) p refl body base fs lead (body_block s body) 0
+      (end_at body) d (block_stands body))
 
   pub calls_lead : (n : ℕ) → CallsLead p (calls_within_frames s n) n
   calls_lead zero line body count f fs c left at =
@@ -104,13 +103,13 @@ module _ (s : PlainScript) where
       let base = base_of count c in
       let fewer : k ≡ frames_left fs1 = omega (arith, left) in
       let entering : ConfigLeads p (Running f fs c) (Running (new_frame body base) fs1) (return_to f fs)
-          (does line (enter (length (body_vars s body) - count)) c) =
-            one p f fs c line (instr.Call body count) _ at
-                (ap (λ n. call_by p n line body count f fs c) left
-                ∙ ap (λ n. led (Running (new_frame body base) fs1) (return_to f fs) (does line (enter (n - count)) c)) (vars_are body)) in
+      (does line (enter (length (body_vars s body) - count)) c) =
+      one p f fs c line (instr.Call body count) _ at
+      (ap (λ n. call_by p n line body count f fs c) left
+      ∙ ap (λ n. led (Running (new_frame body base) fs1) (return_to f fs) (does line (enter (n - count)) c)) (vars_are body)) in
       both p (Running f fs c) (Running (new_frame body base) fs1) (at_address f fs (f.at + 1)) (return_to f fs)
-          (does line (enter (length (body_vars s body) - count)) c) _ entering
-        (λ d. entered k body base fs1 d (return_to f fs) (subst (CallsLead p (calls_within_frames s k)) fewer (calls_lead k)))
+      (does line (enter (length (body_vars s body) - count)) c) _ entering
+      (λ d. entered k body base fs1 d (return_to f fs) (subst (CallsLead p (calls_within_frames s k)) fewer (calls_lead k)))
 
   -- a whole body
   pub body_leads : (body : ℕ) (c : Progress) (back : Progress → Config)

@@ -65,7 +65,7 @@ module _ (p : Program) where
 abbrev pub CallsLead : Program → Callee → ℕ → Type 0
 CallsLead p call n =
     (line body count : ℕ) (f : Frame) (fs : List Frame) (c : Progress) → frames_left fs ≡ n
-        → slice_get (code_at p f.body) f.at ≡ Some (on_line line (instr.Call body count))
+    → slice_get (code_at p f.body) f.at ≡ Some (on_line line (instr.Call body count))
     → ConfigLeads p (Running f fs c) (at_address f fs (f.at + 1)) (return_to f fs) (call line body count c)
 
 module _ (s : PlainScript) (vars : List Name) (call : Callee) (calls_within : CallsWithin call) (p : Program)
@@ -109,7 +109,7 @@ module _ (s : PlainScript) (vars : List Name) (call : Callee) (calls_within : Ca
       → ((y : ℕ) (e : Progress) → CodeStandsAt code a right y → To (spot a e) y (f e)) → To (spot a d) b (f d ▷ does line test_truth)
   second line a b right f d h k =
       then_to (spot a d) (a + length right) b (f d) (does line test_truth) (k (a + length right) d (stands_front code a b right _ h))
-        (λ e. acted line instr.Test test_truth (a + length right) b e (stands_back code a b right _ h) refl)
+      (λ e. acted line instr.Test test_truth (a + length right) b e (stands_back code a b right _ h) refl)
 
   -- where the code of a joined pair ends
   joined_end : (a b : ℕ) (right : List Placed) (line : ℕ) → CodeStandsAt code a (right ++ on_line line instr.Test ∷ []) b
@@ -123,16 +123,16 @@ module _ (s : PlainScript) (vars : List Name) (call : Callee) (calls_within : Ca
   call_runs (Built name) line es args_list f a b c h k =
       let n = a + length args_list in
       then_to (spot a c) n b (f c) (does line (built s.texts name (args_count es))) (k n (stands_front code a b args_list _ h))
-        (λ d. acted line (instr.Built name (args_count es)) (built s.texts name (args_count es)) n b d (stands_back code a b args_list _ h)
-          (ap (λ ts. acts line (built ts name (args_count es)) (frame n) fs d) texts_same))
+      (λ d. acted line (instr.Built name (args_count es)) (built s.texts name (args_count es)) n b d (stands_back code a b args_list _ h)
+      (ap (λ ts. acts line (built ts name (args_count es)) (frame n) fs d) texts_same))
   call_runs (Question name) line es args_list f a b c h k =
       acted line (instr.Ask name (asked_number vars es)) (on_state (ask_change name (base + asked_number vars es))) a b c h refl
   call_runs (Function number) line es args_list f a b c h k =
       let n = a + length args_list in
       let last = stands_back code a b args_list _ h in
       then_to (spot a c) n b (f c) (call line number (args_count es)) (k n (stands_front code a b args_list _ h))
-        (λ d. moved (spot n d) (n + 1) b (call line number (args_count es) d) last.1
-            (calls_lead line number (args_count es) (frame n) fs d refl last.0))
+      (λ d. moved (spot n d) (n + 1) b (call line number (args_count es) d) last.1
+      (calls_lead line number (args_count es) (frame n) fs d refl last.0))
 
   -- the code of an expression does what the expression means
   abbrev Ran : PlainExpr → Type 0
@@ -148,12 +148,12 @@ module _ (s : PlainScript) (vars : List Name) (call : Callee) (calls_within : Ca
       let ce = expr_code s vars e line a in
       let m = a + length ce in
       then_to (spot a c) m b (expr_meaning s vars base call e line c) (does line action) (run line a m c (stands_front code a b ce _ h))
-        (λ d. acted line i action m b d (stands_back code a b ce _ h) (same m d))
+      (λ d. acted line i action m b d (stands_back code a b ce _ h) (same m d))
 
   -- two expressions, and an action
   pair_runs : (l r : PlainExpr) → Ran l → Ran r → (line : ℕ) (i : Instr) (action : Progress → Did) (a b : ℕ) (c : Progress)
       → CodeStandsAt code a (expr_code s vars l line a
-          ++ (expr_code s vars r line (a + length (expr_code s vars l line a)) ++ on_line line i ∷ [])) b
+      ++ (expr_code s vars r line (a + length (expr_code s vars l line a)) ++ on_line line i ∷ [])) b
       → ((n : ℕ) (d : Progress) → act p line i (frame n) fs d ≡ acts line action (frame n) fs d)
       → To (spot a c) b ((expr_meaning s vars base call l line c ▷ expr_meaning s vars base call r line) ▷ does line action)
   pair_runs l r run_l run_r line i action a b c h same =
@@ -163,10 +163,10 @@ module _ (s : PlainScript) (vars : List Name) (call : Callee) (calls_within : Ca
       let n = m + length cr in
       let behind = stands_back code a b cl _ h in
       then_to (spot a c) n b (expr_meaning s vars base call l line c ▷ expr_meaning s vars base call r line) (does line action)
-        (then_to (spot a c) m n (expr_meaning s vars base call l line c) (expr_meaning s vars base call r line)
-            (run_l line a m c (stands_front code a b cl _ h))
-          (λ d. run_r line m n d (stands_front code m b cr _ behind)))
-        (λ d. acted line i action n b d (stands_back code m b cr _ behind) (same n d))
+      (then_to (spot a c) m n (expr_meaning s vars base call l line c) (expr_meaning s vars base call r line)
+      (run_l line a m c (stands_front code a b cl _ h))
+      (λ d. run_r line m n d (stands_front code m b cr _ behind)))
+      (λ d. acted line i action n b d (stands_back code m b cr _ behind) (same n d))
 
   -- `and`, and `or`
   and_runs : (l r : PlainExpr) → Ran l → Ran r → (line a b : ℕ) (c : Progress) → CodeStandsAt code a (expr_code s vars (plain.And l r) line a) b
@@ -179,13 +179,13 @@ module _ (s : PlainScript) (vars : List Name) (call : Callee) (calls_within : Ca
       let t = m + 1 + length cr + 1 in
       let at_end : t ≡ b = joined_end (m + 1) b cr line behind.1 in
       then_to (spot a c) m b (expr_meaning s vars base call l line c) _ (run_l line a m c (stands_front code a b cl _ h))
-        (λ d. on p (one p (frame m) fs d line (instr.And t) _ behind.0 refl)
-          (truths p (last_truth d) d (no_truth line) (λ e. spot (m + 1) (without_operand e)) (spot t) (spot b) home (fails line Kind)
-              (λ e. expr_meaning s vars base call r line (without_operand e) ▷ does line test_truth) Next
-            stop
-            (second line (m + 1) b cr (expr_meaning s vars base call r line) (without_operand d) behind.1
-                (λ y e k. run_r line (m + 1) y e k))
-            (moved (spot t d) t b (Next d) at_end stop)))
+      (λ d. on p (one p (frame m) fs d line (instr.And t) _ behind.0 refl)
+      (truths p (last_truth d) d (no_truth line) (λ e. spot (m + 1) (without_operand e)) (spot t) (spot b) home (fails line Kind)
+      (λ e. expr_meaning s vars base call r line (without_operand e) ▷ does line test_truth) Next
+      stop
+      (second line (m + 1) b cr (expr_meaning s vars base call r line) (without_operand d) behind.1
+      (λ y e k. run_r line (m + 1) y e k))
+      (moved (spot t d) t b (Next d) at_end stop)))
 
   or_runs : (l r : PlainExpr) → Ran l → Ran r → (line a b : ℕ) (c : Progress) → CodeStandsAt code a (expr_code s vars (plain.Or l r) line a) b
       → To (spot a c) b (expr_meaning s vars base call (plain.Or l r) line c)
@@ -197,13 +197,13 @@ module _ (s : PlainScript) (vars : List Name) (call : Callee) (calls_within : Ca
       let t = m + 1 + length cr + 1 in
       let at_end : t ≡ b = joined_end (m + 1) b cr line behind.1 in
       then_to (spot a c) m b (expr_meaning s vars base call l line c) _ (run_l line a m c (stands_front code a b cl _ h))
-        (λ d. on p (one p (frame m) fs d line (instr.Or t) _ behind.0 refl)
-          (truths p (last_truth d) d (no_truth line) (spot t) (λ e. spot (m + 1) (without_operand e)) (spot b) home (fails line Kind) Next
-              (λ e. expr_meaning s vars base call r line (without_operand e) ▷ does line test_truth)
-            stop
-            (moved (spot t d) t b (Next d) at_end stop)
-            (second line (m + 1) b cr (expr_meaning s vars base call r line) (without_operand d) behind.1
-                (λ y e k. run_r line (m + 1) y e k))))
+      (λ d. on p (one p (frame m) fs d line (instr.Or t) _ behind.0 refl)
+      (truths p (last_truth d) d (no_truth line) (spot t) (λ e. spot (m + 1) (without_operand e)) (spot b) home (fails line Kind) Next
+      (λ e. expr_meaning s vars base call r line (without_operand e) ▷ does line test_truth)
+      stop
+      (moved (spot t d) t b (Next d) at_end stop)
+      (second line (m + 1) b cr (expr_meaning s vars base call r line) (without_operand d) behind.1
+      (λ y e k. run_r line (m + 1) y e k))))
 
   mutual
     pub expr_runs : (e : PlainExpr) (line a b : ℕ) (c : Progress) → CodeStandsAt code a (expr_code s vars e line a) b
@@ -240,8 +240,8 @@ module _ (s : PlainScript) (vars : List Name) (call : Callee) (calls_within : Ca
     args_runs (arg e es) line a b c h =
         let ce = expr_code s vars e line a in
         then_to (spot a c) (a + length ce) b (expr_meaning s vars base call e line c) (args_meaning s vars base call es line)
-            (expr_runs e line a (a + length ce) c (stands_front code a b ce _ h))
-          (λ d. args_runs es line (a + length ce) b d (stands_back code a b ce _ h))
+        (expr_runs e line a (a + length ce) c (stands_front code a b ce _ h))
+        (λ d. args_runs es line (a + length ce) b d (stands_back code a b ce _ h))
 
   -- a tick, and an expression
   begun : (e : PlainExpr) (line a b : ℕ) (c : Progress) → slice_get code a ≡ Some (on_line line instr.Tick)
@@ -258,8 +258,8 @@ module _ (s : PlainScript) (vars : List Name) (call : Callee) (calls_within : Ca
       let ce = expr_code s vars e line (a + 1) in
       let m = a + 1 + length ce in
       then_to (spot a c) m b (does line tick c ▷ expr_meaning s vars base call e line) (does line action)
-          (begun e line a m c h.0 (stands_front code (a + 1) b ce _ h.1))
-        (λ d. acted line i action m b d (stands_back code (a + 1) b ce _ h.1) (same m d))
+      (begun e line a m c h.0 (stands_front code (a + 1) b ce _ h.1))
+      (λ d. acted line i action m b d (stands_back code (a + 1) b ce _ h.1) (same m d))
 
   -- what goes on by a return
   returns : (x : Config) (m b line : ℕ) (o : Flow) → slice_get code m ≡ Some (on_line line instr.Return) → To x m o → To x b (o ▷ Return)
@@ -277,12 +277,12 @@ module _ (s : PlainScript) (vars : List Name) (call : Callee) (calls_within : Ca
       let behind_t = stands_back code (a + 1) b ct _ h.1 in
       let behind_k = stands_back code m b ck _ behind_t in
       then_to (spot a c) q b _ (does line (on_state write_change))
-        (then_to (spot a c) n q _ (expr_meaning s vars base call e line)
-          (then_to (spot a c) m n (does line tick c ▷ expr_meaning s vars base call t line) (expr_meaning s vars base call k line)
-            (begun t line a m c h.0 (stands_front code (a + 1) b ct _ h.1))
-            (λ d. expr_runs k line m n d (stands_front code m b ck _ behind_t)))
-          (λ d. expr_runs e line n q d (stands_front code n b ce _ behind_k)))
-        (λ d. acted line instr.Write (on_state write_change) q b d (stands_back code n b ce _ behind_k) refl)
+      (then_to (spot a c) n q _ (expr_meaning s vars base call e line)
+      (then_to (spot a c) m n (does line tick c ▷ expr_meaning s vars base call t line) (expr_meaning s vars base call k line)
+      (begun t line a m c h.0 (stands_front code (a + 1) b ct _ h.1))
+      (λ d. expr_runs k line m n d (stands_front code m b ck _ behind_t)))
+      (λ d. expr_runs e line n q d (stands_front code n b ce _ behind_k)))
+      (λ d. acted line instr.Write (on_state write_change) q b d (stands_back code n b ce _ behind_k) refl)
 
   -- the branches of an `if`, after its test
   if_runs : (none : Bool) (line past b : ℕ) (cy co : List Placed) (on_yes on_no : Progress → Flow) (d : Progress)
@@ -296,24 +296,24 @@ module _ (s : PlainScript) (vars : List Name) (call : Callee) (calls_within : Ca
       let stands : CodeStandsAt code (past + 1) cy b = h.1 in
       let at_end : t ≡ b = stands_end code (past + 1) b cy stands in
       on p (one p (frame past) fs d line (instr.Unless t) _ h.0 refl)
-        (truths p (last_truth d) d (no_truth line) (λ e. spot (past + 1) (without_operand e)) (λ e. spot t (without_operand e))
-            (spot b) home (fails line Kind) (λ e. on_yes (without_operand e)) (λ e. on_no (without_operand e))
-          stop
-          (run_yes b (without_operand d) stands)
-          (moved (spot t (without_operand d)) t b (on_no (without_operand d)) at_end
-              (subst (λ o. To (spot t (without_operand d)) t o) (sym (quiet refl (without_operand d))) stop)))
+      (truths p (last_truth d) d (no_truth line) (λ e. spot (past + 1) (without_operand e)) (λ e. spot t (without_operand e))
+      (spot b) home (fails line Kind) (λ e. on_yes (without_operand e)) (λ e. on_no (without_operand e))
+      stop
+      (run_yes b (without_operand d) stands)
+      (moved (spot t (without_operand d)) t b (on_no (without_operand d)) at_end
+      (subst (λ o. To (spot t (without_operand d)) t o) (sym (quiet refl (without_operand d))) stop)))
   if_runs false line past b cy co on_yes on_no d h run_yes run_no quiet =
       let m = past + 1 + length cy in
       let t = m + 1 in
       let e : t + length co ≡ b = stands_end code t b co (stands_back code (past + 1) b cy _ h.1).1 in
       let behind = stands_back code (past + 1) b cy _ h.1 in
       on p (one p (frame past) fs d line (instr.Unless t) _ h.0 refl)
-        (truths p (last_truth d) d (no_truth line) (λ e. spot (past + 1) (without_operand e)) (λ e. spot t (without_operand e))
-            (spot b) home (fails line Kind) (λ e. on_yes (without_operand e)) (λ e. on_no (without_operand e))
-          stop
-          (jumped (spot (past + 1) (without_operand d)) line m (t + length co) b (on_yes (without_operand d)) behind.0 e
-              (run_yes m (without_operand d) (stands_front code (past + 1) b cy _ h.1)))
-          (run_no b (without_operand d) behind.1))
+      (truths p (last_truth d) d (no_truth line) (λ e. spot (past + 1) (without_operand e)) (λ e. spot t (without_operand e))
+      (spot b) home (fails line Kind) (λ e. on_yes (without_operand e)) (λ e. on_no (without_operand e))
+      stop
+      (jumped (spot (past + 1) (without_operand d)) line m (t + length co) b (on_yes (without_operand d)) behind.0 e
+      (run_yes m (without_operand d) (stands_front code (past + 1) b cy _ h.1)))
+      (run_no b (without_operand d) behind.1))
     where
       jumped : (x : Config) (line m t b : ℕ) (o : Flow) → slice_get code m ≡ Some (on_line line (instr.Jump t)) → t ≡ b → To x m o
           → To x b o
@@ -335,19 +335,19 @@ module _ (s : PlainScript) (vars : List Name) (call : Callee) (calls_within : Ca
       absurd (omega (arith, lt))
   turns_run line top past last b condition of_body at_top at_past at_last run_condition run_body condition_within body_within (suc k) c lt =
       both_below p c.ticks (spot top c) (spot past) (spot b) home (does line tick c ▷ condition) _
-        (below_then c.ticks (does line tick c) condition (tick_below line c) condition_within)
-        (ticked line top past condition c at_top run_condition)
-        (λ d fewer. on p (one p (frame past) fs d line (instr.Unless b) _ at_past refl)
-          (truths p (last_truth d) d (no_truth line) (λ e. spot (past + 1) (without_operand e)) (λ e. spot b (without_operand e))
-              (spot b) home (fails line Kind) (λ e. of_body (without_operand e) ▷ turns k line condition of_body)
-              (λ e. Next (without_operand e))
-            stop
-            (both_within_to d.ticks (spot (past + 1) (without_operand d)) last b (of_body (without_operand d))
-                (turns k line condition of_body) (body_within (without_operand d)) (run_body (without_operand d))
-              (λ e le. on p (one p (frame last) fs e line (instr.Jump top) (spot top e) at_last refl)
-                (turns_run line top past last b condition of_body at_top at_past at_last run_condition run_body condition_within body_within
-                    k e (omega (arith, le, fewer, lt)))))
-            stop))
+      (below_then c.ticks (does line tick c) condition (tick_below line c) condition_within)
+      (ticked line top past condition c at_top run_condition)
+      (λ d fewer. on p (one p (frame past) fs d line (instr.Unless b) _ at_past refl)
+      (truths p (last_truth d) d (no_truth line) (λ e. spot (past + 1) (without_operand e)) (λ e. spot b (without_operand e))
+      (spot b) home (fails line Kind) (λ e. of_body (without_operand e) ▷ turns k line condition of_body)
+      (λ e. Next (without_operand e))
+      stop
+      (both_within_to d.ticks (spot (past + 1) (without_operand d)) last b (of_body (without_operand d))
+      (turns k line condition of_body) (body_within (without_operand d)) (run_body (without_operand d))
+      (λ e le. on p (one p (frame last) fs e line (instr.Jump top) (spot top e) at_last refl)
+      (turns_run line top past last b condition of_body at_top at_past at_last run_condition run_body condition_within body_within
+      k e (omega (arith, le, fewer, lt)))))
+      stop))
     where
       both_within_to : (t : ℕ) (x : Config) (m b : ℕ) (o : Flow) (f : Progress → Flow) → TicksWithin t o → To x m o
           → ((d : Progress) → d.ticks ≤ t → To (spot m d) b (f d)) → To x b (o ▷ f)
@@ -372,10 +372,10 @@ module _ (s : PlainScript) (vars : List Name) (call : Callee) (calls_within : Ca
       let cy = block_code s vars first (past + 1) in
       let co = block_code s vars other (past + 1 + length cy + 1) in
       then_to (spot a c) past b (does line tick c ▷ expr_meaning s vars base call e line) _
-          (begun e line a past c h.0 (stands_front code (a + 1) b ce _ h.1))
-        (λ d. if_runs (is_empty_block other) line past b cy co (block_meaning s vars base call first)
-            (block_meaning s vars base call other) d (stands_back code (a + 1) b ce _ h.1)
-          (λ y f k. run_first (past + 1) y f k) (λ y f k. run_other (past + 1 + length cy + 1) y f k) (empty_block other))
+      (begun e line a past c h.0 (stands_front code (a + 1) b ce _ h.1))
+      (λ d. if_runs (is_empty_block other) line past b cy co (block_meaning s vars base call first)
+      (block_meaning s vars base call other) d (stands_back code (a + 1) b ce _ h.1)
+      (λ y f k. run_first (past + 1) y f k) (λ y f k. run_other (past + 1 + length cy + 1) y f k) (empty_block other))
 
   while_statement : (e : PlainExpr) (k : PlainBlock) → RanBlock k → (line a b : ℕ) (c : Progress)
       → CodeStandsAt code a (stmt_code s vars (plain.While line e k) a) b
@@ -390,12 +390,12 @@ module _ (s : PlainScript) (vars : List Name) (call : Callee) (calls_within : Ca
       let jump_at = stands_back code (past + 1) b ck _ behind.1 in
       let at_end : last + 1 ≡ b = jump_at.1 in
       ticked line a b _ c h.0
-        (λ d. turns_run line (a + 1) past last b (expr_meaning s vars base call e line) (block_meaning s vars base call k) h.1.0
-          (subst (λ n. slice_get code past ≡ Some (on_line line (instr.Unless n))) at_end behind.0) jump_at.0
-          (λ f. expr_runs e line (a + 1 + 1) past f (stands_front code (a + 1 + 1) b ce _ test_at))
-          (λ f. run (past + 1) last f (stands_front code (past + 1) b ck _ behind.1))
-          (expr_within s vars base call calls_within e line) (block_within s vars base call calls_within k)
-          (suc d.ticks) d (omega arith))
+      (λ d. turns_run line (a + 1) past last b (expr_meaning s vars base call e line) (block_meaning s vars base call k) h.1.0
+      (subst (λ n. slice_get code past ≡ Some (on_line line (instr.Unless n))) at_end behind.0) jump_at.0
+      (λ f. expr_runs e line (a + 1 + 1) past f (stands_front code (a + 1 + 1) b ce _ test_at))
+      (λ f. run (past + 1) last f (stands_front code (past + 1) b ck _ behind.1))
+      (expr_within s vars base call calls_within e line) (block_within s vars base call calls_within k)
+      (suc d.ticks) d (omega arith))
 
   mutual
     pub statement_runs : (st : PlainStmt) (a b : ℕ) (c : Progress) → CodeStandsAt code a (stmt_code s vars st a) b
@@ -408,12 +408,12 @@ module _ (s : PlainScript) (vars : List Name) (call : Callee) (calls_within : Ca
         (a + 1) b d h.1 refl)
     statement_runs (plain.Return line None) a b c h =
         returns (spot a c) (a + 1 + 1) b line _ h.1.1.0
-            (ticked line a (a + 1 + 1) (does line (push_value value.None)) c h.0
-            (λ d. acted line instr.None (push_value value.None) (a + 1) (a + 1 + 1) d (h.1.0, refl) refl))
+        (ticked line a (a + 1 + 1) (does line (push_value value.None)) c h.0
+        (λ d. acted line instr.None (push_value value.None) (a + 1) (a + 1 + 1) d (h.1.0, refl) refl))
     statement_runs (plain.Return line (Some e)) a b c h =
         let ce = expr_code s vars e line (a + 1) in
         returns (spot a c) (a + 1 + length ce) b line _ (stands_back code (a + 1) b ce _ h.1).0
-            (begun e line a (a + 1 + length ce) c h.0 (stands_front code (a + 1) b ce _ h.1))
+        (begun e line a (a + 1 + length ce) c h.0 (stands_front code (a + 1) b ce _ h.1))
     statement_runs (plain.Pass line) a b c h = acted line instr.Tick tick a b c h refl
     statement_runs (plain.Eval line e) a b c h = begun_single e line instr.Pop pop_value a b c h (λ n d. refl)
     statement_runs (plain.If line e first other) a b c h = if_statement e first other (block_runs first) (block_runs other) line a b c h
@@ -423,8 +423,8 @@ module _ (s : PlainScript) (vars : List Name) (call : Callee) (calls_within : Ca
         let ws = map (var_number vars) (capture_names cowns captures) in
         let number = when_number s.tree line in
         ticked line a b _ c h.0 (λ d. acted line (instr.When number vs ws)
-            (spawns_one number (slots_of s vars base call (cown_names cowns)) (slots_of s vars base call (capture_names cowns captures)))
-            (a + 1) b d h.1 refl)
+        (spawns_one number (slots_of s vars base call (cown_names cowns)) (slots_of s vars base call (capture_names cowns captures)))
+        (a + 1) b d h.1 refl)
 
     pub block_runs : (k : PlainBlock) (a b : ℕ) (c : Progress) → CodeStandsAt code a (block_code s vars k a) b
         → To (spot a c) b (block_meaning s vars base call k c)
@@ -433,5 +433,5 @@ module _ (s : PlainScript) (vars : List Name) (call : Callee) (calls_within : Ca
         let ca = stmt_code s vars st a in
         let m = a + length ca in
         then_to (spot a c) m b (stmt_meaning s vars base call st c) (block_meaning s vars base call k)
-            (statement_runs st a m c (stands_front code a b ca _ h))
-          (λ d. block_runs k m b d (stands_back code a b ca _ h))
+        (statement_runs st a m c (stands_front code a b ca _ h))
+        (λ d. block_runs k m b d (stands_back code a b ca _ h))

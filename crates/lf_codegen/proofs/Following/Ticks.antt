@@ -68,11 +68,11 @@ pub turns_within : (k line : ℕ) (condition body : Progress → Flow) → ((d :
 turns_within zero line condition body hc hb c = tt
 turns_within (suc k) line condition body hc hb c =
     both_within c.ticks (does line tick c ▷ condition) _ (both_within c.ticks (does line tick c) condition (tick_within line c) hc)
-      (λ d. truth_within (last_truth d) d (fails line Kind) (λ e. body (without_operand e) ▷ turns k line condition body)
-          (λ e. Next (without_operand e)) tt
-        (both_within d.ticks (body (without_operand d)) (turns k line condition body) (hb (without_operand d))
-            (turns_within k line condition body hc hb))
-        (omega arith))
+    (λ d. truth_within (last_truth d) d (fails line Kind) (λ e. body (without_operand e) ▷ turns k line condition body)
+    (λ e. Next (without_operand e)) tt
+    (both_within d.ticks (body (without_operand d)) (turns k line condition body) (hb (without_operand d))
+    (turns_within k line condition body hc hb))
+    (omega arith))
 
 abbrev pub CallsWithin : Callee → Type 0
 CallsWithin call = (line body count : ℕ) (c : Progress) → TicksWithin c.ticks (call line body count c)
@@ -107,10 +107,10 @@ module _ (s : PlainScript) (vars : List Name) (base : ℕ) (call : Callee) (hcal
         (λ d. on_state_within line (binary_change op) d)
     expr_within (plain.And l r) line c =
         both_within c.ticks _ _ (expr_within l line c) (λ d. truth_within (last_truth d) d (fails line Kind) _ Next tt
-          (both_within d.ticks _ (does line test_truth) (expr_within r line (without_operand d)) (test_within line)) (omega arith))
+        (both_within d.ticks _ (does line test_truth) (expr_within r line (without_operand d)) (test_within line)) (omega arith))
     expr_within (plain.Or l r) line c =
         both_within c.ticks _ _ (expr_within l line c) (λ d. truth_within (last_truth d) d (fails line Kind) Next _ tt (omega arith)
-          (both_within d.ticks _ (does line test_truth) (expr_within r line (without_operand d)) (test_within line)))
+        (both_within d.ticks _ (does line test_truth) (expr_within r line (without_operand d)) (test_within line)))
     expr_within (plain.Call x es) line c =
         call_within (called_of s x.id) line es (args_meaning s vars base call es line) c (args_within es line c)
 
@@ -127,7 +127,7 @@ module _ (s : PlainScript) (vars : List Name) (base : ℕ) (call : Callee) (hcal
         both_within c.ticks _ _ (begun e line c) (λ d. to_state_within line (put_down (base + var_number vars x)) d)
     statement_within (plain.Store line t k e) c =
         both_within c.ticks _ _ (both_within c.ticks _ _ (both_within c.ticks _ _ (begun t line c) (λ d. expr_within k line d))
-            (λ d. expr_within e line d)) (λ d. on_state_within line write_change d)
+        (λ d. expr_within e line d)) (λ d. on_state_within line write_change d)
     statement_within (plain.Drop line x) c =
         both_within c.ticks _ _ (tick_within line c) (λ d. on_state_within line (unset_change (base + var_number vars x)) d)
     statement_within (plain.Return line None) c =
@@ -138,8 +138,8 @@ module _ (s : PlainScript) (vars : List Name) (base : ℕ) (call : Callee) (hcal
     statement_within (plain.Eval line e) c = both_within c.ticks _ _ (begun e line c) (λ d. to_state_within line popped d)
     statement_within (plain.If line e body other) c =
         both_within c.ticks _ _ (begun e line c)
-            (λ d. truth_within (last_truth d) d (fails line Kind) _ _ tt (block_within body (without_operand d))
-            (block_within other (without_operand d)))
+        (λ d. truth_within (last_truth d) d (fails line Kind) _ _ tt (block_within body (without_operand d))
+        (block_within other (without_operand d)))
     statement_within (plain.While line e body) c =
         both_within c.ticks _ _ (tick_within line c) (λ d. turns_within (suc d.ticks) line _ _ (expr_within e line) (block_within body) d)
     statement_within (plain.When line cowns captures body) c = both_within c.ticks _ _ (tick_within line c) (λ d. spawn_within _ line d _)
@@ -157,5 +157,5 @@ pub calls_within : (s : PlainScript) (k : ℕ) → CallsWithin (calls_within_fra
 calls_within s zero line body count c = no_frame_left_by_within line c.ticks c
 calls_within s (suc k) line body count c =
     both_within c.ticks _ _ (enter_by_within line c.ticks _ c refl)
-      (λ d. frame_within d.ticks (base_of count c) _
-          (block_within s (body_vars s body) (base_of count c) (calls_within_frames s k) (calls_within s k) (body_block s body) d))
+    (λ d. frame_within d.ticks (base_of count c) _
+    (block_within s (body_vars s body) (base_of count c) (calls_within_frames s k) (calls_within s k) (body_block s body) d))

@@ -39,14 +39,14 @@ module _ (s : PlainScript) where
       let last : Config = led finish finish (body_meaning s body c) in
       let reached : Reaches p first last = body_leads s body c finish in
       ap config_result (done p (most_steps p c.ticks) first last reached (is_over (body_meaning s body c))
-        (enough p (is_ticked s) body 0 c))
+      (enough p (is_ticked s) body 0 c))
       ∙ same_end (body_meaning s body c)
 
   code_means : (ticks : ℕ) (job : Job) (contents : List (CownId × Parked)) (given : List Row)
       → run_code p ticks job contents given ≡ run_one s ticks job contents given
   code_means ticks job contents given =
       ap (λ n. config_result (steps p (most_steps p ticks)
-        (Running (new_frame job.body 0) [] (first_progress job contents given n ticks)))) (vars_are s job.body)
+      (Running (new_frame job.body 0) [] (first_progress job contents given n ticks)))) (vars_are s job.body)
       ∙ body_runs job.body (first_progress job contents given (length (body_vars s job.body)) ticks)
 
 pub code_means_tree : CodeMeansTree

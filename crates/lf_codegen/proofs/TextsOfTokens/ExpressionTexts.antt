@@ -78,7 +78,7 @@ module _ (count : ℕ) where
           either_adds
           (then_adds takes_none (λ _. then_adds (takes_id count) (λ x. yields_adds _ refl)))
           (then_adds (only_adds takes_none) (λ _. then_adds (adds_after (expr_texts e) deep.expr) (λ k. then_adds takes_none
-              (λ _. yields_adds _ refl))))
+          (λ _. yields_adds _ refl))))
 
       suffixes : (e : PlainExpr) → AddsTexts count (expr_texts e) expr_texts (form.Suffixes Room D e)
       suffixes e = many_adds suffix e

@@ -40,7 +40,7 @@ mutual
   block_when_texts no_stmts f t k m = absurd m
   block_when_texts (stmt st ss) f t k m =
       in_parts f t (stmt_whens st) (block_whens ss) (stmt_texts st) (block_texts ss) (stmt_when_texts st f t k)
-          (block_when_texts ss f t k) m
+      (block_when_texts ss f t k) m
 
 module _ (tree : PlainTree) where
   of_function : (f : PlainFunction) (t : TextId) → Member f tree.functions → Member t (block_texts f.body) → Member t (tree_texts tree)
@@ -50,10 +50,10 @@ module _ (tree : PlainTree) where
   of_when : (f : PlainFrame) (t : TextId) → Member f (when_frames tree) → Member t (block_texts f.body) → Member t (tree_texts tree)
   of_when f t m k = elim (Member_of_append f (flat_map function_whens tree.functions) (block_whens tree.main)
       (of_rising frame_line f _ m)) [
-    | inl l ↦ let at = Member_of_flat_map function_whens f tree.functions l in
-        of_function at.0 t at.1.0 (block_when_texts (at.0).body f t k at.1.1)
-    | inr l ↦ Member_right t (flat_map function_texts tree.functions) (block_texts tree.main) (block_when_texts tree.main f t k l)
-  ]
+        | inl l ↦ let at = Member_of_flat_map function_whens f tree.functions l in
+            of_function at.0 t at.1.0 (block_when_texts (at.0).body f t k at.1.1)
+        | inr l ↦ Member_right t (flat_map function_texts tree.functions) (block_texts tree.main) (block_when_texts tree.main f t k l)
+      ]
 
   pub frame_texts : (f : PlainFrame) (t : TextId) → Member f (frames tree) → Member t (block_texts f.body) → Member t (tree_texts tree)
   frame_texts f t (inl e) k =

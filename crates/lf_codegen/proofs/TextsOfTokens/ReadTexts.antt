@@ -26,7 +26,7 @@ derived_texts count tokens tree d w t m =
     let h = d.2 in
     let s = script_spread (texts_among count) tt function_texts stmt_texts block_texts (stmts_texts_last count) AnyCount d.0 d.1 h.0
     (def_adds count AnyCount d.0 d.1 h.0) (stmt_adds count AnyCount d.0 d.1 (form.blocks AnyCount d.0 d.1 h.0)
-        (blocks_add count AnyCount d.0 d.1 h.0))
+    (blocks_add count AnyCount d.0 d.1 h.0))
     refl tokens tree h.1 in
     s.stand.within w t (elim (Member_of_append t (flat_map function_texts tree.functions) (block_texts tree.main) m) [
       | inl k ↦ sub_within (first_part s.merged) t k

@@ -46,7 +46,7 @@ module _ (count : ℕ) where
           (form.ArmAndRest Room elifs levels Block m More)
       arm_and_rest m More others =
           then_adds (arm m) (λ a. then_adds (adds_after (arm_texts a) others) (λ other. yields_adds _ (sym (append_assoc
-              (expr_texts a.test) (block_texts a.body) (stmts_texts other)))))
+          (expr_texts a.test) (block_texts a.body) (stmts_texts other)))))
 
       rest : (n : ℕ) → AddsTexts count [] stmts_texts (form.Rest Room elifs levels Block n)
       rest zero = otherwise
@@ -68,11 +68,11 @@ module _ (count : ℕ) where
       given : (line : ℕ) (e : PlainExpr) → AddsTexts count (expr_texts e) stmt_texts (Sign mark.Assign ⨟
           (λ _. form.AnExpr Room elifs levels Block ⨟ (λ value. Yields (assigned line e value))))
           ⊎ AddsTexts count [] stmt_texts (Sign mark.Assign ⨟ (λ _. form.AnExpr Room elifs levels Block ⨟ (λ value. Yields
-              (assigned line e value))))
+          (assigned line e value))))
       given line (plain.Var x) = inl (then_adds takes_none (λ _. then_adds an_expr (λ value. yields_adds _ refl)))
       given line (plain.Field target key) =
           inl (then_adds takes_none (λ _. then_adds (adds_after (expr_texts target ++ expr_texts key) an_expr) (λ value. yields_adds _ (sym
-              (append_assoc (expr_texts target) (expr_texts key) (expr_texts value))))))
+          (append_assoc (expr_texts target) (expr_texts key) (expr_texts value))))))
       given line _ = inr (then_adds takes_none (λ _. then_adds an_expr (λ value. yields_adds _ refl)))
 
       assignment : (line : ℕ) → AddsTexts count [] stmt_texts (form.Assignment Room elifs levels Block line)
@@ -101,7 +101,7 @@ module _ (count : ℕ) where
       stmt_adds =
           either_adds (arm_and_rest mark.If (form.Rest Room elifs levels Block elifs) (rest elifs))
           (either_adds while_of (either_adds when_of (then_adds (located_adds simple) (λ s. then_adds takes_none
-              (λ _. yields_adds s refl)))))
+          (λ _. yields_adds s refl)))))
 
       more_stmt : (ss : List PlainStmt) → AddsTexts count (stmts_texts ss) stmts_texts (form.MoreStmt Room elifs levels Block ss)
       more_stmt ss = then_adds (adds_after (stmts_texts ss) stmt_adds) (λ s. yields_adds _ (stmts_texts_last ss s))
@@ -126,4 +126,4 @@ module _ (count : ℕ) where
         (λ x. then_adds takes_none
         (λ _. then_adds (some_names_add count Room)
         (λ params. then_adds takes_none (λ _. then_adds (body (form.blocks Room elifs levels nest) (blocks_add nest))
-            (λ ss. yields_adds _ refl))))))
+        (λ ss. yields_adds _ refl))))))

@@ -116,14 +116,14 @@ module _ (s : PlainScript) where
   function_fits : (fs : List PlainFunction) (more : List NamedFrame) (id : TextId) (count : ℕ) (v : Bool)
       → ((f : PlainFunction) → Member f fs → params_refusals f ≡ []) → call_refusal (exactly (params_of fs id)) count v ≡ None
       → has_params (slice_get (map (generated_body s) (map function_named fs ++ more)) (position_or_len
-          (λ f. same_text id f.name.id) fs)) count ≡ true
+      (λ f. same_text id f.name.id) fs)) count ≡ true
   function_fits [] more id count v ok h = absurd cc
   function_fits (f ∷ fs) more id count v ok h = by (same_text id f.name.id) (λ e. function_fits fs more id count v (λ g m. ok g
       (inr m)) e) h
     where
       by : (b : Bool)
           → (call_refusal (exactly (params_of fs id)) count v ≡ None → has_params (slice_get (map (generated_body s)
-              (map function_named fs ++ more))
+          (map function_named fs ++ more))
           (position_or_len (λ g. same_text id g.name.id) fs)) count ≡ true)
           → call_refusal (exactly (cond b (Some (length f.params)) (params_of fs id))) count v ≡ None
           → has_params (slice_get (generated_body s (function_named f) ∷ map (generated_body s) (map function_named fs ++ more))
@@ -131,10 +131,10 @@ module _ (s : PlainScript) where
       by true k e =
           eq-eqb (length (distinct f.params)) count
           (ap length (all_distinct f.params (ok f (inl refl))) ∙ sym (exact_count (callee_taking (length f.params) (length f.params))
-              (length f.params) count v refl refl e))
+          (length f.params) count v refl refl e))
       by false k e =
           ap (λ b. has_params b count) (behind_one (generated_body s (function_named f)) (map (generated_body s)
-              (map function_named fs ++ more))
+          (map function_named fs ++ more))
           (position_or_len (λ g. same_text id g.name.id) fs))
           ∙ k e
 

@@ -129,12 +129,12 @@ among_next : (id : TextId) (names : List Name) (x : Name) (xs : List Name) → i
     → is_among id (with_new_name names x ++ xs) ≡ true
 among_next id names x xs h = elim (is_among x.id names) as (λ b. is_among x.id names ≡ b → is_among id (cond b names
     (names ++ x ∷ []) ++ xs) ≡ true) [
-  | true ↦ λ e. list_any-append (λ (y : Name). same_text id y.id) names xs
-      ∙ or_same (is_among id names) (same_text id x.id) (is_among id xs)
-      (sym (list_any-append (λ (y : Name). same_text id y.id) names (x ∷ [])) ∙ among_again id names x e)
-      (sym (list_any-append (λ (y : Name). same_text id y.id) names (x ∷ xs)) ∙ h)
-  | false ↦ λ e. ap (is_among id) (append_assoc names (x ∷ []) xs) ∙ h
-] refl
+      | true ↦ λ e. list_any-append (λ (y : Name). same_text id y.id) names xs
+          ∙ or_same (is_among id names) (same_text id x.id) (is_among id xs)
+          (sym (list_any-append (λ (y : Name). same_text id y.id) names (x ∷ [])) ∙ among_again id names x e)
+          (sym (list_any-append (λ (y : Name). same_text id y.id) names (x ∷ xs)) ∙ h)
+      | false ↦ λ e. ap (is_among id) (append_assoc names (x ∷ []) xs) ∙ h
+    ] refl
 
 pub among_distinct : (id : TextId) (names xs : List Name) → is_among id (names ++ xs) ≡ true → is_among id (fold with_new_name names xs)
     ≡ true

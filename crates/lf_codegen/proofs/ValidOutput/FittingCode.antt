@@ -158,14 +158,14 @@ module _ (s : PlainScript) (vars : List Name) (addresses : ℕ) where
     expr_run (plain.Field t k) line at h =
         let m = at + length (expr_code s vars t line at) in
         joins at (expr_code s vars t line at) _ (expr_run t line at (front (expr_mentions t) (expr_mentions k) (expr_texts t)
-            (expr_texts k) h))
+        (expr_texts k) h))
         (joins m (expr_code s vars k line m) _
         (expr_run k line m (back (expr_mentions t) (expr_mentions k) (expr_texts t) (expr_texts k) h)) (alone _ line instr.Read refl))
     expr_run (plain.Move x) line at h = alone at line (instr.Take (var_number vars x)) (number_within vars x (h.0 (Use x) (inl refl)))
     expr_run (plain.Remove t k) line at h =
         let m = at + length (expr_code s vars t line at) in
         joins at (expr_code s vars t line at) _ (expr_run t line at (front (expr_mentions t) (expr_mentions k) (expr_texts t)
-            (expr_texts k) h))
+        (expr_texts k) h))
         (joins m (expr_code s vars k line m) _
         (expr_run k line m (back (expr_mentions t) (expr_mentions k) (expr_texts t) (expr_texts k) h)) (alone _ line instr.Remove refl))
     expr_run (plain.Neg e) line at h =
@@ -175,10 +175,10 @@ module _ (s : PlainScript) (vars : List Name) (addresses : ℕ) where
     expr_run (plain.Binary op l r) line at h =
         let m = at + length (expr_code s vars l line at) in
         joins at (expr_code s vars l line at) _ (expr_run l line at (front (expr_mentions l) (expr_mentions r) (expr_texts l)
-            (expr_texts r) h))
+        (expr_texts r) h))
         (joins m (expr_code s vars r line m) _
         (expr_run r line m (back (expr_mentions l) (expr_mentions r) (expr_texts l) (expr_texts r) h)) (alone _ line
-            (instr.Binary op) refl))
+        (instr.Binary op) refl))
     expr_run (plain.And l r) line at h =
         let m = at + length (expr_code s vars l line at) + 1 in
         joined_run instr.And line at (expr_code s vars l line at) (expr_code s vars r line m) (λ a. refl)
@@ -283,7 +283,7 @@ module _ (s : PlainScript) (vars : List Name) (addresses : ℕ) where
         ticked at line _
         (joins (at + 1) (expr_code s vars t line (at + 1)) _
         (expr_run t line (at + 1) (front (expr_mentions t) (expr_mentions k ++ expr_mentions e) (expr_texts t)
-            (expr_texts k ++ expr_texts e) h))
+        (expr_texts k ++ expr_texts e) h))
         (joins m (expr_code s vars k line m) _
         (expr_run k line m (front (expr_mentions k) (expr_mentions e) (expr_texts k) (expr_texts e) of_rest))
         (joins n (expr_code s vars e line n) _

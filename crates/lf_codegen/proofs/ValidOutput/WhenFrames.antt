@@ -102,7 +102,7 @@ when_at : (fs : List PlainFrame) (g : PlainFrame) → Ascending ltb (map frame_l
 when_at [] g a m = absurd m
 when_at (f ∷ fs) g a (inl e) =
     ap (λ b. slice_get (f ∷ fs) (cond (not b) (1 + position_or_len (λ h. eqb h.line g.line) fs) 0)) (eq-eqb f.line g.line (ap
-        (λ h. h.line) e))
+    (λ h. h.line) e))
     ∙ ap Some e
 when_at (f ∷ fs) g a (inr m) =
     let below : f.line < g.line = ltb-true f.line g.line (a.0 g.line (Member_map frame_line g fs m)) in
