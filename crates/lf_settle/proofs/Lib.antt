@@ -1,3 +1,4 @@
+pub mod SuspectLists
 pub mod Counting
 pub mod RowsDropped
 pub mod Rounds

@@ -19,8 +19,10 @@ use lf_graph::Store;
 use lf_regions::RegionTable;
 use std::sync::ledger::Ledger;
 
-// Takes a field out of a row of that owner.
-fn drop_field<S: Store, L: Ledger>(
+/// Takes a field out of a row of that owner, with its edge. Its target becomes a suspect
+/// where it lost its last justification by that. It needs room for a suspect for each row
+/// to which an edge leads and for each region with an owner or a borrow.
+pub fn drop_field<S: Store, L: Ledger>(
     store: &mut S,
     regions: &mut RegionTable,
     work: &mut Work,

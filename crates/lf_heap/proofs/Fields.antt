@@ -1,0 +1,5 @@
+-- Fields that are read, taken and written.
+pub mod PlacesNamed
+pub mod FieldReads
+pub mod FieldTakes
+pub mod FieldWrites

@@ -1,0 +1,4 @@
+pub mod States
+pub mod Slots
+pub mod Fields
+pub mod Calls

@@ -1,0 +1,4 @@
+-- Slots that come, go and change.
+pub mod SlotPlaces
+pub mod SlotLosses
+pub mod SlotParts

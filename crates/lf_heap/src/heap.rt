@@ -1,0 +1,271 @@
+//! A domain as its users see it: each call leaves a state of which all rows stay.
+
+ghost use Rattle.std.specs.Prelude.{◌≡◌, ◌+◌, ◌*◌, ◌-◌, ◌<◌, ◌≤◌, [], IfOk, OnOk, length};
+ghost use Rattle.lf_base.specs.declared.values.Value.{Value as Item};
+ghost use Rattle.lf_base.specs.HeapCalls.{Gives, GivesOrWants, lift_change, load_change, new_object_change, new_region_change};
+ghost use Rattle.lf_base.specs.HeapCalls.{read_change, take_change, unset_change, write_change};
+ghost use Rattle.lf_base.specs.Operands.{operand, popped, pushed, put_down, slot_below};
+ghost use Rattle.lf_base.specs.PlainChanges.{first_state};
+ghost use Rattle.lf_base.specs.SettledStates.{Settled};
+ghost use Rattle.lf_base.specs.WellFormed.{SlotMayHold};
+ghost use Rattle.lf_heap.specs.Heaps.{SameRoom};
+
+use crate::parts::Parts;
+use lf_base::{Fault, HeapFail, OutOfMemory, Steps, Value};
+use lf_graph::Store;
+use lf_settle::Work;
+use std::alloc::Global;
+use std::marker::Model;
+use std::sync::ledger::Ledger;
+
+/// One behaviour's domain: the objects that it made, in regions or local, and its slots.
+/// Contracts see the state, and the number of slots for which there is room. Between two
+/// calls the state is well-formed, its counts are right, and all its rows stay.
+#[derive(Drop)]
+pub struct Heap<S: Store> {
+    parts: Parts<S>,
+    // Empty between two calls.
+    work: Work,
+    // No fewer than the rows.
+    rows: usize,
+}
+
+impl<S: Store> Model for Heap<S> {
+    ghost use Rattle.lf_heap.specs.Heaps.{Domain, IsAtRest};
+
+    ghost Value = { Domain };
+
+    ghost view = { λ h. h.parts };
+
+    ghost invariant = { λ h. IsAtRest h.parts.state h.work h.rows };
+}
+
+// Makes room for the suspects that there may be with one row more, and gives that number
+// of rows.
+fn watch_one_more(work: &mut Work, rows: usize) -> Result<usize, OutOfMemory>
+    ensures suspects { work.new.suspects ≡ work.old.suspects }
+    ensures rows { IfOk result (λ more. more ≡ rows + 1) }
+    ensures enough { IfOk result (λ more. 2 * more + 4 ≤ work.new.spare) }
+    ensures room { work.old.spare ≤ work.new.spare }
+{
+    let more = rows.checked_add(1).ok_or(OutOfMemory)?;
+    let twice = more.checked_mul(2).ok_or(OutOfMemory)?;
+    work.reserve(twice.checked_add(4).ok_or(OutOfMemory)?)?;
+    Ok(more)
+}
+
+impl<S: Store> Heap<S> {
+    /// A heap without objects and slots, of the behaviour of that number, or
+    /// `OutOfMemory`.
+    pub fn new(alloc: Global, birth: u32) -> Result<Heap<S>, OutOfMemory>
+        ensures { IfOk result (λ heap. heap.state ≡ first_state birth []) }
+    {
+        let parts = Parts::new(alloc, birth)?;
+        let mut work = Work::new(alloc);
+        work.reserve(4)?;
+        Ok(Heap {
+            parts,
+            work,
+            rows: 0,
+        })
+    }
+
+    /// Makes room for so many slots more, without lowering it. After `OutOfMemory`, which
+    /// may come at any time, there is no less.
+    pub fn room(&mut self, slots: usize) -> Result<(), OutOfMemory>
+        ensures state { self.new.state ≡ self.old.state }
+        ensures enough { OnOk result (slots ≤ self.new.spare) }
+        ensures room { self.old.spare ≤ self.new.spare }
+    {
+        self.parts.make_room(slots)
+    }
+
+    /// The number of slots.
+    pub fn slots(&self) -> usize
+        ensures { result ≡ length self.now.state.slots }
+    {
+        self.parts.len()
+    }
+
+    /// Adds a slot, set or unset. It makes two calls on the store, and none for a value
+    /// that is no object.
+    pub fn push(&mut self, v: Option<Value>)
+        requires room { 1 ≤ self.old.spare }
+        requires may { (u : Item) → v ≡ Some u → SlotMayHold self.old.state u }
+        ensures state { self.new.state ≡ pushed v self.old.state }
+        ensures room { SameRoom self.old self.new }
+    {
+        self.parts.add_slot(v);
+    }
+
+    /// Drops the last slot.
+    pub fn pop<L: Ledger>(&mut self, steps: &mut Steps<L>)
+        requires { 1 ≤ length self.old.state.slots }
+        ensures state { self.new.state ≡ popped self.old.state }
+        ensures room { SameRoom self.old self.new }
+    {
+        self.parts.drop_slot(&mut self.work, steps);
+        self.parts.settle(&mut self.work, steps);
+    }
+
+    /// The slot so many below the last one; `None` exactly where it is unset.
+    pub fn top(&self, down: usize) -> Option<Value>
+        requires { down < length self.now.state.slots }
+        ensures { result ≡ slot_below self.now.state down }
+    {
+        self.parts.slot(self.parts.len() - 1 - down)
+    }
+
+    /// Pushes a copy of a slot. It is refused where that slot is unset (`Unset`).
+    pub fn load(&mut self, at: usize) -> Result<(), Fault>
+        requires there { at < length self.old.state.slots }
+        requires room { 1 ≤ self.old.spare }
+        ensures change { Gives (load_change at self.old.state) result self.old.state self.new.state }
+        ensures room { SameRoom self.old self.new }
+    {
+        let v = self.parts.slot(at);
+        if v.is_none() {
+            return Err(Fault::Unset);
+        }
+        self.parts.add_slot(v);
+        Ok(())
+    }
+
+    /// Moves a slot to a further one and leaves it unset. It is refused where that slot
+    /// is unset (`Unset`).
+    pub fn lift(&mut self, at: usize) -> Result<(), Fault>
+        requires there { at < length self.old.state.slots }
+        requires room { 1 ≤ self.old.spare }
+        ensures change { Gives (lift_change at self.old.state) result self.old.state self.new.state }
+        ensures room { SameRoom self.old self.new }
+    {
+        if self.parts.slot(at).is_none() {
+            return Err(Fault::Unset);
+        }
+        self.parts.lift_slot(at);
+        Ok(())
+    }
+
+    /// Moves the last slot to a place below it.
+    pub fn put<L: Ledger>(&mut self, at: usize, steps: &mut Steps<L>)
+        requires { at + 1 < length self.old.state.slots }
+        ensures state { self.new.state ≡ put_down at self.old.state }
+        ensures room { SameRoom self.old self.new }
+    {
+        self.parts.move_last(at, &mut self.work, steps);
+        self.parts.settle(&mut self.work, steps);
+    }
+
+    /// Leaves a slot unset. It is refused where that slot is unset (`Unset`).
+    pub fn unset<L: Ledger>(&mut self, at: usize, steps: &mut Steps<L>) -> Result<(), Fault>
+        requires { at < length self.old.state.slots }
+        ensures change { Gives (unset_change at self.old.state) result self.old.state self.new.state }
+        ensures room { SameRoom self.old self.new }
+    {
+        if self.parts.slot(at).is_none() {
+            return Err(Fault::Unset);
+        }
+        self.parts.replace_slot(at, None, &mut self.work, steps);
+        self.parts.settle(&mut self.work, steps);
+        Ok(())
+    }
+
+    // The value of the operand so many below the last one; `None` where it is unset.
+    fn operand(&self, down: usize) -> Value
+        requires { down < length self.now.state.slots }
+        ensures { result ≡ operand self.now.state down }
+    {
+        match self.top(down) {
+            Some(v) => v,
+            None => Value::None,
+        }
+    }
+
+    /// Makes a local object and pushes it. It is refused where the behaviour has made
+    /// as many objects and cowns as it may (`TooManyObjects`). After `OutOfMemory`, which
+    /// may come at any time, all is as it was.
+    pub fn new_object(&mut self) -> Result<(), HeapFail>
+        requires { 1 ≤ self.old.spare }
+        ensures change { GivesOrWants (new_object_change self.old.state) result self.old.state self.new.state }
+        ensures room { SameRoom self.old self.new }
+    {
+        let rows = watch_one_more(&mut self.work, self.rows)?;
+        let o = self.parts.add_object()?;
+        self.rows = rows;
+        self.parts.add_slot(Some(Value::Obj(o)));
+        Ok(())
+    }
+
+    /// Makes a region of a bridge alone, and pushes the bridge. It is refused as
+    /// `new_object` is.
+    pub fn new_region(&mut self) -> Result<(), HeapFail>
+        requires { 1 ≤ self.old.spare }
+        ensures change { GivesOrWants (new_region_change self.old.state) result self.old.state self.new.state }
+        ensures room { SameRoom self.old self.new }
+    {
+        let rows = watch_one_more(&mut self.work, self.rows)?;
+        let o = self.parts.add_region()?;
+        self.rows = rows;
+        self.parts.add_slot(Some(Value::Obj(o)));
+        Ok(())
+    }
+
+    /// Reads a field: the last two slots are a target and a key, and become its value. It
+    /// is refused where the target is neither an object nor a cown (`NotObject`), then where
+    /// the key is neither a text nor an integer (`Kind`), then for a cown, since none is held
+    /// (`NotAcquired`), and for an object where the field isn't there (`NoField`).
+    pub fn read<L: Ledger>(&mut self, steps: &mut Steps<L>) -> Result<(), Fault>
+        requires { 2 ≤ length self.old.state.slots }
+        ensures change { Gives (read_change self.old.state) result self.old.state self.new.state }
+        ensures room { SameRoom self.old self.new }
+    {
+        let target = self.operand(1);
+        let key = self.operand(0);
+        let v = self.parts.find(target, key, steps)?;
+        let at = self.parts.len() - 2;
+        self.parts.replace_slot(at, Some(v), &mut self.work, steps);
+        self.parts.drop_slot(&mut self.work, steps);
+        self.parts.settle(&mut self.work, steps);
+        Ok(())
+    }
+
+    /// Writes a field: the last three slots are a target, a key and a value, and go. What
+    /// moves with the value goes to the target's region, where it lies in one. It is refused
+    /// as `read` is, but needs no field that is there, and then by the first of these that its
+    /// result would show: a frozen target (`FrozenWrite`), an edge to the inside of another
+    /// region (`Interior`), a bridge with two owners (`SecondOwner`), owners that go round
+    /// (`Cycle`). After `OutOfMemory`, which may come at any time, all is as it was.
+    pub fn write<L: Ledger>(&mut self, steps: &mut Steps<L>) -> Result<(), HeapFail>
+        requires { 3 ≤ length self.old.state.slots }
+        ensures change { GivesOrWants (write_change self.old.state) result self.old.state self.new.state }
+        ensures room { SameRoom self.old self.new }
+    {
+        let target = self.operand(2);
+        let key = self.operand(1);
+        let v = self.operand(0);
+        self.parts.put_in(target, key, v, &mut self.work, steps)?;
+        self.parts.drop_slot(&mut self.work, steps);
+        self.parts.drop_slot(&mut self.work, steps);
+        self.parts.drop_slot(&mut self.work, steps);
+        self.parts.settle(&mut self.work, steps);
+        Ok(())
+    }
+
+    /// Takes a field: the last two slots are a target and a key, and become its value; the
+    /// object is left without the field. It is refused as `read` is, and before `NoField`
+    /// where the object is frozen (`FrozenWrite`).
+    pub fn take<L: Ledger>(&mut self, steps: &mut Steps<L>) -> Result<(), Fault>
+        requires { 2 ≤ length self.old.state.slots }
+        ensures change { Gives (take_change self.old.state) result self.old.state self.new.state }
+        ensures room { SameRoom self.old self.new }
+    {
+        let target = self.operand(1);
+        let key = self.operand(0);
+        let v = self.parts.take_out(target, key, &mut self.work, steps)?;
+        let at = self.parts.len() - 2;
+        self.parts.replace_slot(at, Some(v), &mut self.work, steps);
+        self.parts.drop_slot(&mut self.work, steps);
+        self.parts.settle(&mut self.work, steps);
+        Ok(())
+    }
+}

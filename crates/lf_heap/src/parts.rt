@@ -1,0 +1,463 @@
+//! The parts of a domain, which count its edges. Rows may be left that nothing justifies:
+//! the heap settles them at the end of each call.
+
+ghost use Rattle.std.specs.Prelude.{◌≡◌, ◌+◌, ◌++◌, ◌*◌, ◌-◌, ◌<◌, ◌≤◌, [], List, None, Some, IfOk, OnErr, OnOk, length, map};
+ghost use Rattle.std.specs.Result.{result_err};
+ghost use Rattle.lf_base.specs.declared.faults.Fault.TheVariants.{NotAcquired};
+ghost use Rattle.lf_base.specs.declared.ids.ObjId.{ObjId as Name};
+ghost use Rattle.lf_base.specs.declared.values.Value.{Value as Item};
+ghost use Rattle.lf_base.specs.declared.values.Value.TheVariants.{Obj};
+ghost use Rattle.lf_base.specs.Accesses.{field_of, or_no_field, read_refusal, read_value, remove_refusal, remove_result};
+ghost use Rattle.lf_base.specs.Accesses.{store_refusal, store_result};
+ghost use Rattle.lf_base.specs.Edges.{Edge, Slot, edges_by, slot_targets};
+ghost use Rattle.lf_base.specs.HeapCalls.{making_refusal};
+ghost use Rattle.lf_base.specs.Kept.{kept};
+ghost use Rattle.lf_base.specs.Names.{key_of};
+ghost use Rattle.lf_base.specs.Noticing.{InSlot, Noticed};
+ghost use Rattle.lf_base.specs.Operands.{slot_below, without_last};
+ghost use Rattle.lf_base.specs.PlainChanges.{first_state, next_object, object_result, region_result, slot_at, with_slot, with_slot_at};
+ghost use Rattle.lf_base.specs.PlainState.{Row, State};
+ghost use Rattle.lf_base.specs.SettledStates.{Settled};
+ghost use Rattle.lf_base.specs.Suspects.{Object};
+ghost use Rattle.lf_base.specs.TakeResult.{take_refusal, take_result};
+ghost use Rattle.lf_base.specs.WellFormed.{SlotMayHold};
+ghost use Rattle.lf_base.specs.WriteResult.{write_refusal, write_result};
+ghost use Rattle.lf_barrier.specs.WritePlans.{AnswersAs};
+ghost use Rattle.lf_domain.specs.Counts.{Counts};
+ghost use Rattle.lf_domain.specs.OneEdge.{MayCount};
+ghost use Rattle.lf_graph.specs.RowChanges.{with_new_row};
+ghost use Rattle.lf_graph.specs.StoredRows.{IsNewName, SameByOwner};
+ghost use Rattle.lf_heap.specs.Following.{Follows};
+ghost use Rattle.lf_settle.specs.Drops.{SameCapacity};
+
+use crate::access::{Target, access_of};
+use lf_barrier::{apply_write, plan_write};
+use lf_base::{Fault, HeapFail, Key, MOST_MADE, ObjId, OutOfMemory, Owner, Steps, Value};
+use lf_domain::{count_borrow, target_of};
+use lf_graph::Store;
+use lf_regions::RegionTable;
+use lf_settle::{Suspect, Work, drop_field, lose_borrow, settle};
+use std::alloc::Global;
+use std::marker::{Brand, Model};
+use std::sync::ledger::{Blank, Ledger};
+
+// The most slots that a domain has room for, and the most fields that are ever written.
+const MOST_SLOTS: usize = 4_611_686_018_427_387_904;
+
+const MOST_CELLS: u64 = 4_611_686_018_427_387_903;
+
+/// The store, the table of regions and the slots of one domain. Contracts see the state
+/// that they stand for, and the number of slots for which there is room. It is
+/// well-formed, and store and table keep its counts.
+#[derive(Drop)]
+pub(crate) struct Parts<S: Store> {
+    birth: u32,
+    // How many objects were made.
+    objects: u32,
+    // No fewer than the fields of all rows.
+    cells: u64,
+    store: S,
+    regions: RegionTable,
+    slots: Vec<Option<Value>>,
+    alloc: Global,
+}
+
+impl<S: Store> Model for Parts<S> {
+    ghost use Rattle.std.specs.Prelude.{◌-◌, ◌^◌, min, vec_capacity, vec_len};
+    ghost use Rattle.lf_heap.specs.Heaps.{Domain, HasParts, heap_state};
+
+    ghost Value = { Domain };
+
+    ghost view = { λ p. record {
+      state = heap_state p.birth p.objects (S.rows p.store) p.slots.items;
+      spare = min (vec_capacity p.slots) (2 ^ 62) - vec_len p.slots;
+    } };
+
+    ghost invariant = { λ p. HasParts (S.rows p.store) p.regions p.cells (heap_state p.birth p.objects (S.rows p.store) p.slots.items) };
+}
+
+// Counts a slot's edge by steps that nobody sees.
+fn count_alone<S: Store, L: Ledger>(
+    store: &mut S,
+    regions: &mut RegionTable,
+    v: Option<Value>,
+    blank: Blank,
+)
+    requires name { blank.name ≡ L.name }
+    requires parts { blank.parts ≡ L.parts }
+    requires some { 0 < L.parts }
+    requires may { (of : List Row) × ((es : List Edge) × MayCount (S.rows store.old) regions.old of es) }
+    ensures { (of : List Row) (es : List Edge) → MayCount (S.rows store.old) regions.old of es
+        → Counts (S.rows store.new) regions.new of (edges_by Slot (slot_targets v) ++ es) }
+{
+    let mut steps = Steps::<L>::new(blank);
+    count_borrow(store, regions, v, &mut steps);
+}
+
+// Makes a row by steps that nobody sees.
+fn insert_alone<S: Store, L: Ledger>(store: &mut S, o: ObjId, owner: Owner, blank: Blank)
+    requires name { blank.name ≡ L.name }
+    requires parts { blank.parts ≡ L.parts }
+    requires some { 0 < L.parts }
+    requires new { IsNewName (S.rows store.old) o }
+    requires room { 1 ≤ S.spare store.old owner }
+    ensures { SameByOwner (S.rows store.new) (with_new_row (S.rows store.old) o owner) }
+{
+    let mut steps = Steps::<L>::new(blank);
+    store.insert(o, owner, &mut steps);
+}
+
+// Notes the object of a value, where it has one.
+fn note(work: &mut Work, v: Option<Value>)
+    requires { 1 ≤ work.old.spare }
+    ensures suspects { work.new.suspects ≡ map Object (slot_targets v) ++ work.old.suspects }
+    ensures capacity { SameCapacity work.old work.new }
+{
+    if let Some(o) = target_of(v) {
+        work.push(Suspect::Object(o));
+    }
+}
+
+impl<S: Store> Parts<S> {
+    /// The parts of a domain without objects and slots, or `OutOfMemory`.
+    pub(crate) fn new(alloc: Global, birth: u32) -> Result<Parts<S>, OutOfMemory>
+        ensures { IfOk result (λ parts. parts.state ≡ first_state birth []) }
+    {
+        let store = S::new(alloc)?;
+        let regions = RegionTable::new(alloc)?;
+        Ok(Parts {
+            birth,
+            objects: 0,
+            cells: 0,
+            store,
+            regions,
+            slots: Vec::new(alloc),
+            alloc,
+        })
+    }
+
+    /// Makes room for so many slots more. After `OutOfMemory`, which may come at any
+    /// time, there is no less.
+    pub(crate) fn make_room(&mut self, slots: usize) -> Result<(), OutOfMemory>
+        ensures state { self.new.state ≡ self.old.state }
+        ensures enough { OnOk result (slots ≤ self.new.spare) }
+        ensures room { self.old.spare ≤ self.new.spare }
+    {
+        if slots > MOST_SLOTS - self.slots.len() {
+            return Err(OutOfMemory);
+        }
+        self.slots.reserve(slots)?;
+        Ok(())
+    }
+
+    /// The number of slots.
+    pub(crate) fn len(&self) -> usize
+        ensures { result ≡ length self.now.state.slots }
+    {
+        self.slots.len()
+    }
+
+    /// The slot at a place.
+    pub(crate) fn slot(&self, at: usize) -> Option<Value>
+        requires { at < length self.now.state.slots }
+        ensures { result ≡ slot_at self.now.state.slots at }
+    {
+        self.slots[at]
+    }
+
+    /// Adds a slot.
+    pub(crate) fn add_slot(&mut self, v: Option<Value>)
+        requires room { 1 ≤ self.old.spare }
+        requires may { (u : Item) → v ≡ Some u → SlotMayHold self.old.state u }
+        ensures state { self.new.state ≡ with_slot self.old.state v }
+        ensures room { self.new.spare + 1 ≡ self.old.spare }
+    {
+        self.slots.push_reserved(v);
+        count_alone::<S, Brand>(&mut self.store, &mut self.regions, v, Blank::new(1));
+    }
+
+    /// Drops the last slot.
+    pub(crate) fn drop_slot<L: Ledger>(&mut self, work: &mut Work, steps: &mut Steps<L>)
+        requires there { 1 ≤ length self.old.state.slots }
+        requires room { 1 ≤ work.old.spare }
+        ensures state { self.new.state ≡ without_last 1 self.old.state }
+        ensures follows { Follows self.old.state self.new.state work.old work.new 1 }
+        ensures room { self.new.spare ≡ self.old.spare + 1 }
+    {
+        if let Some(old) = self.slots.pop() {
+            lose_borrow(&mut self.store, &mut self.regions, work, old, steps);
+        }
+    }
+
+    /// Puts a value in place of a slot's.
+    pub(crate) fn replace_slot<L: Ledger>(
+        &mut self,
+        at: usize,
+        v: Option<Value>,
+        work: &mut Work,
+        steps: &mut Steps<L>,
+    )
+        requires there { at < length self.old.state.slots }
+        requires may { (u : Item) → v ≡ Some u → SlotMayHold self.old.state u }
+        requires room { 1 ≤ work.old.spare }
+        ensures state { self.new.state ≡ with_slot_at self.old.state at v }
+        ensures follows { Follows self.old.state self.new.state work.old work.new 1 }
+        ensures room { self.new.spare ≡ self.old.spare }
+    {
+        let old = self.slots[at];
+        self.slots[at] = v;
+        count_borrow(&mut self.store, &mut self.regions, v, steps);
+        lose_borrow(&mut self.store, &mut self.regions, work, old, steps);
+    }
+
+    /// Moves the last slot to a place below it.
+    pub(crate) fn move_last<L: Ledger>(&mut self, at: usize, work: &mut Work, steps: &mut Steps<L>)
+        requires below { at + 1 < length self.old.state.slots }
+        requires room { 1 ≤ work.old.spare }
+        ensures state { self.new.state ≡ with_slot_at (without_last 1 self.old.state) at (slot_below self.old.state 0) }
+        ensures follows { Follows self.old.state self.new.state work.old work.new 1 }
+        ensures room { self.new.spare ≡ self.old.spare + 1 }
+    {
+        if let Some(v) = self.slots.pop() {
+            let old = self.slots[at];
+            self.slots[at] = v;
+            lose_borrow(&mut self.store, &mut self.regions, work, old, steps);
+        }
+    }
+
+    /// Moves a slot to a further one, and leaves it unset.
+    pub(crate) fn lift_slot(&mut self, at: usize)
+        requires there { at < length self.old.state.slots }
+        requires room { 1 ≤ self.old.spare }
+        ensures state { self.new.state ≡ with_slot (with_slot_at self.old.state at None) (slot_at self.old.state.slots at) }
+        ensures room { self.new.spare + 1 ≡ self.old.spare }
+    {
+        let v = self.slots[at];
+        self.slots[at] = None;
+        self.slots.push_reserved(v);
+    }
+
+    /// Drops the rows that nothing justifies, with all that goes because of them.
+    pub(crate) fn settle<L: Ledger>(&mut self, work: &mut Work, steps: &mut Steps<L>)
+        requires noticed { Noticed self.old.state work.old.suspects }
+        requires room { 2 * length self.old.state.rows ≤ work.old.spare }
+        ensures state { self.new.state ≡ kept self.old.state }
+        ensures settled { Settled self.new.state }
+        ensures fewer { length self.new.state.rows ≤ length self.old.state.rows }
+        ensures none_left { work.new.suspects ≡ [] }
+        ensures capacity { work.new.spare ≡ work.old.spare + length work.old.suspects }
+        ensures room { self.new.spare ≡ self.old.spare }
+    {
+        settle(&mut self.store, &mut self.regions, work, steps);
+    }
+
+    // The name of the next object. One object more than may be made is refused
+    // (`TooManyObjects`).
+    fn next_name(&self) -> Result<ObjId, Fault>
+        ensures answer { result_err result ≡ making_refusal self.now.state }
+        ensures name { IfOk result (λ o. o ≡ next_object self.now.state) }
+    {
+        if self.objects as usize >= MOST_MADE {
+            return Err(Fault::TooManyObjects);
+        }
+        Ok(ObjId {
+            birth: self.birth,
+            seq: self.objects + 1,
+        })
+    }
+
+    /// Makes a local object.
+    pub(crate) fn add_object(&mut self) -> Result<ObjId, HeapFail>
+        ensures answer { AnswersAs (making_refusal self.old.state) result }
+        ensures name { IfOk result (λ o. o ≡ next_object self.old.state) }
+        ensures state { OnOk result (self.new.state ≡ object_result self.old.state) }
+        ensures may { IfOk result (λ o. SlotMayHold self.new.state (Obj o)) }
+        ensures unchanged { OnErr result (self.new.state ≡ self.old.state) }
+        ensures room { self.new.spare ≡ self.old.spare }
+    {
+        let o = self.next_name()?;
+        self.store.reserve(Owner::Local, 1)?;
+        self.objects += 1;
+        insert_alone::<S, Brand>(&mut self.store, o, Owner::Local, Blank::new(1));
+        Ok(o)
+    }
+
+    /// Makes a region of a bridge alone.
+    pub(crate) fn add_region(&mut self) -> Result<ObjId, HeapFail>
+        ensures answer { AnswersAs (making_refusal self.old.state) result }
+        ensures name { IfOk result (λ o. o ≡ next_object self.old.state) }
+        ensures state { OnOk result (self.new.state ≡ region_result self.old.state) }
+        ensures may { IfOk result (λ o. SlotMayHold self.new.state (Obj o)) }
+        ensures unchanged { OnErr result (self.new.state ≡ self.old.state) }
+        ensures room { self.new.spare ≡ self.old.spare }
+    {
+        let o = self.next_name()?;
+        self.store.reserve(Owner::In(o), 1)?;
+        self.regions.make(o)?;
+        self.objects += 1;
+        insert_alone::<S, Brand>(&mut self.store, o, Owner::In(o), Blank::new(1));
+        Ok(o)
+    }
+
+    // What the use of a cown is refused for, as none is held.
+    fn not_held(&self) -> Fault
+        ensures fault { result ≡ NotAcquired }
+        ensures none { self.now.state.held ≡ [] }
+    {
+        let _birth = self.birth;
+        Fault::NotAcquired
+    }
+
+    /// What a read of a target by a key gives.
+    pub(crate) fn find<L: Ledger>(
+        &self,
+        target: Value,
+        key: Value,
+        steps: &mut Steps<L>,
+    ) -> Result<Value, Fault>
+        ensures answer { result_err result ≡ read_refusal self.now.state target key }
+        ensures value { IfOk result (λ v. read_value self.now.state target (key_of key) ≡ Some v) }
+        ensures may { IfOk result (λ v. SlotMayHold self.now.state v) }
+    {
+        let access = access_of(target, key)?;
+        match access.target {
+            Target::Object(o) => self.field_of(o, access.key, steps),
+            Target::Cown(_) => Err(self.not_held()),
+        }
+    }
+
+    // The field of an object.
+    fn field_of<L: Ledger>(&self, o: ObjId, key: Key, steps: &mut Steps<L>) -> Result<Value, Fault>
+        ensures answer { result_err result ≡ or_no_field (field_of self.now.state o key) }
+        ensures value { IfOk result (λ v. field_of self.now.state o key ≡ Some v) }
+        ensures may { IfOk result (λ v. SlotMayHold self.now.state v) }
+    {
+        if self.store.owner(o, steps).is_none() {
+            return Err(Fault::NoField);
+        }
+        match self.store.field(o, key, steps) {
+            Some(v) => Ok(v),
+            None => Err(Fault::NoField),
+        }
+    }
+
+    /// Takes what a target and a key name, and gives its value.
+    pub(crate) fn take_out<L: Ledger>(
+        &mut self,
+        target: Value,
+        key: Value,
+        work: &mut Work,
+        steps: &mut Steps<L>,
+    ) -> Result<Value, Fault>
+        requires room { 2 * length self.old.state.rows + 1 ≤ work.old.spare }
+        ensures answer { result_err result ≡ remove_refusal self.old.state target key }
+        ensures value { IfOk result (λ v. read_value self.old.state target (key_of key) ≡ Some v) }
+        ensures state { OnOk result (self.new.state ≡ remove_result self.old.state target (key_of key)) }
+        ensures may { IfOk result (λ v. SlotMayHold self.new.state v) }
+        ensures follows { OnOk result (Follows self.old.state self.new.state work.old work.new 1) }
+        ensures unchanged { OnErr result (self.new.state ≡ self.old.state) }
+        ensures no_suspect { OnErr result (work.new ≡ work.old) }
+        ensures room { self.new.spare ≡ self.old.spare }
+    {
+        let access = access_of(target, key)?;
+        match access.target {
+            Target::Object(o) => self.take_field(o, access.key, work, steps),
+            Target::Cown(_) => Err(self.not_held()),
+        }
+    }
+
+    // Takes a field of an object.
+    fn take_field<L: Ledger>(
+        &mut self,
+        o: ObjId,
+        key: Key,
+        work: &mut Work,
+        steps: &mut Steps<L>,
+    ) -> Result<Value, Fault>
+        requires room { 2 * length self.old.state.rows + 1 ≤ work.old.spare }
+        ensures answer { result_err result ≡ take_refusal self.old.state o key }
+        ensures value { IfOk result (λ v. field_of self.old.state o key ≡ Some v) }
+        ensures state { OnOk result (self.new.state ≡ take_result self.old.state o key) }
+        ensures may { IfOk result (λ v. SlotMayHold self.new.state v) }
+        ensures follows { OnOk result (Follows self.old.state self.new.state work.old work.new 1) }
+        ensures unchanged { OnErr result (self.new.state ≡ self.old.state) }
+        ensures no_suspect { OnErr result (work.new ≡ work.old) }
+        ensures room { self.new.spare ≡ self.old.spare }
+    {
+        let Some(owner) = self.store.owner(o, steps) else {
+            return Err(Fault::FrozenWrite);
+        };
+        let Some(v) = self.store.field(o, key, steps) else {
+            return Err(Fault::NoField);
+        };
+        drop_field(
+            &mut self.store,
+            &mut self.regions,
+            work,
+            o,
+            owner,
+            key,
+            steps,
+        );
+        Ok(v)
+    }
+
+    /// Writes what a target and a key name. It needs a slot that names the target.
+    pub(crate) fn put_in<L: Ledger>(
+        &mut self,
+        target: Value,
+        key: Value,
+        v: Value,
+        work: &mut Work,
+        steps: &mut Steps<L>,
+    ) -> Result<(), HeapFail>
+        requires named { (o : Name) → target ≡ Obj o → InSlot self.old.state o }
+        requires may { SlotMayHold self.old.state v }
+        requires room { 1 ≤ work.old.spare }
+        ensures answer { AnswersAs (store_refusal self.old.state target key v) result }
+        ensures state { OnOk result (self.new.state ≡ store_result self.old.state target (key_of key) v) }
+        ensures follows { OnOk result (Follows self.old.state self.new.state work.old work.new 1) }
+        ensures unchanged { OnErr result (self.new.state ≡ self.old.state) }
+        ensures no_suspect { OnErr result (work.new ≡ work.old) }
+        ensures room { self.new.spare ≡ self.old.spare }
+    {
+        let access = access_of(target, key)?;
+        match access.target {
+            Target::Object(o) => self.put_field(o, access.key, v, work, steps),
+            Target::Cown(_) => Err(HeapFail::Fault(self.not_held())),
+        }
+    }
+
+    // Writes a field of an object.
+    fn put_field<L: Ledger>(
+        &mut self,
+        o: ObjId,
+        key: Key,
+        v: Value,
+        work: &mut Work,
+        steps: &mut Steps<L>,
+    ) -> Result<(), HeapFail>
+        requires named { InSlot self.old.state o }
+        requires may { SlotMayHold self.old.state v }
+        requires room { 1 ≤ work.old.spare }
+        ensures answer { AnswersAs (write_refusal self.old.state o key v) result }
+        ensures state { OnOk result (self.new.state ≡ write_result self.old.state o key v) }
+        ensures follows { OnOk result (Follows self.old.state self.new.state work.old work.new 1) }
+        ensures unchanged { OnErr result (self.new.state ≡ self.old.state) }
+        ensures no_suspect { OnErr result (work.new ≡ work.old) }
+        ensures room { self.new.spare ≡ self.old.spare }
+    {
+        if self.cells >= MOST_CELLS {
+            return Err(HeapFail::OutOfMemory);
+        }
+        let planned = plan_write(self.alloc, &mut self.store, &self.regions, o, key, v, steps);
+        let plan = match planned {
+            Ok(plan) => plan,
+            Err(fail) => return Err(fail),
+        };
+        self.cells += 1;
+        let old = apply_write(&mut self.store, &mut self.regions, plan, steps);
+        note(work, old);
+        Ok(())
+    }
+}
