@@ -14,5 +14,6 @@
 mod access;
 mod heap;
 mod parts;
+mod questions;
 
 pub use heap::Heap;

@@ -1,0 +1,2 @@
+-- What questions answer.
+pub mod CountsAsked
