@@ -1,2 +1,3 @@
 -- What questions answer.
 pub mod CountsAsked
+pub mod WithoutSlot

@@ -1,3 +1,4 @@
 pub mod Heaps
 pub mod Accesses
+pub mod Openness
 pub mod Following

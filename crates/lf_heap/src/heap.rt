@@ -2,6 +2,7 @@
 
 ghost use Rattle.std.specs.Prelude.{◌≡◌, ◌+◌, ◌*◌, ◌-◌, ◌<◌, ◌≤◌, [], IfOk, OnOk, length};
 ghost use Rattle.lf_base.specs.declared.values.Value.{Value as Item};
+ghost use Rattle.lf_base.specs.Asking.{GivesAnswer, asked};
 ghost use Rattle.lf_base.specs.HeapCalls.{Gives, GivesOrWants, lift_change, load_change, new_object_change, new_region_change};
 ghost use Rattle.lf_base.specs.HeapCalls.{read_change, take_change, unset_change, write_change};
 ghost use Rattle.lf_base.specs.Operands.{operand, popped, pushed, put_down, slot_below};
@@ -11,7 +12,7 @@ ghost use Rattle.lf_base.specs.WellFormed.{SlotMayHold};
 ghost use Rattle.lf_heap.specs.Heaps.{SameRoom};
 
 use crate::parts::Parts;
-use lf_base::{Fault, HeapFail, OutOfMemory, Steps, Value};
+use lf_base::{Answer, Fault, HeapFail, OutOfMemory, Question, Steps, Value};
 use lf_graph::Store;
 use lf_settle::Work;
 use std::alloc::Global;
@@ -78,6 +79,14 @@ impl<S: Store> Heap<S> {
         ensures room { self.old.spare ≤ self.new.spare }
     {
         self.parts.make_room(slots)
+    }
+
+    /// Between two calls the state is well-formed, and all its rows stay. For callers'
+    /// proofs: it does nothing.
+    pub fn at_rest(&self)
+        ensures { Settled self.now.state }
+    {
+        let _rows = self.rows;
     }
 
     /// The number of slots.
@@ -267,5 +276,20 @@ impl<S: Store> Heap<S> {
         self.parts.drop_slot(&mut self.work, steps);
         self.parts.settle(&mut self.work, steps);
         Ok(())
+    }
+
+    /// What a question on a variable answers. It is refused where the variable is unset
+    /// (`Unset`), where the count of an object is asked that isn't mutable (`Kind`), and where
+    /// something else but a bridge's region is asked for (`NotBridge`). It takes no memory and
+    /// changes nothing: regions are listed in the room for suspects for as long as it lasts,
+    /// which is why it wants the heap for itself. On counts and labels it makes at most two
+    /// calls on the store; openness is found by a walk down the rows of what the region owns,
+    /// each region once.
+    pub fn ask(&mut self, question: Question, at: usize) -> Result<Answer, Fault>
+        requires { at < length self.old.state.slots }
+        ensures answer { GivesAnswer (asked self.old.state question at) result }
+        ensures same { self.new ≡ self.old }
+    {
+        self.parts.ask(&mut self.work, question, at)
     }
 }

@@ -13,6 +13,8 @@
 
 mod access;
 mod heap;
+pub mod laws;
+mod openness;
 mod parts;
 mod questions;
 

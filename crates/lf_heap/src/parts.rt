@@ -1,7 +1,7 @@
 //! The parts of a domain, which count its edges. Rows may be left that nothing justifies:
 //! the heap settles them at the end of each call.
 
-ghost use Rattle.std.specs.Prelude.{◌≡◌, ◌+◌, ◌++◌, ◌*◌, ◌-◌, ◌<◌, ◌≤◌, [], List, None, Some, IfOk, OnErr, OnOk, length, map};
+ghost use Rattle.std.specs.Prelude.{◌≡◌, ◌+◌, ◌++◌, ◌*◌, ◌-◌, ◌<◌, ◌≤◌, [], List, None, Some, IfOk, OnErr, OnOk, length, map, ℕ};
 ghost use Rattle.std.specs.Result.{result_err};
 ghost use Rattle.lf_base.specs.declared.faults.Fault.TheVariants.{NotAcquired};
 ghost use Rattle.lf_base.specs.declared.ids.ObjId.{ObjId as Name};
@@ -9,6 +9,7 @@ ghost use Rattle.lf_base.specs.declared.values.Value.{Value as Item};
 ghost use Rattle.lf_base.specs.declared.values.Value.TheVariants.{Obj};
 ghost use Rattle.lf_base.specs.Accesses.{field_of, or_no_field, read_refusal, read_value, remove_refusal, remove_result};
 ghost use Rattle.lf_base.specs.Accesses.{store_refusal, store_result};
+ghost use Rattle.lf_base.specs.Asking.{GivesAnswer, answer_to, asked};
 ghost use Rattle.lf_base.specs.Edges.{Edge, Slot, edges_by, slot_targets};
 ghost use Rattle.lf_base.specs.HeapCalls.{making_refusal};
 ghost use Rattle.lf_base.specs.Kept.{kept};
@@ -23,7 +24,7 @@ ghost use Rattle.lf_base.specs.TakeResult.{take_refusal, take_result};
 ghost use Rattle.lf_base.specs.WellFormed.{SlotMayHold};
 ghost use Rattle.lf_base.specs.WriteResult.{write_refusal, write_result};
 ghost use Rattle.lf_barrier.specs.WritePlans.{AnswersAs};
-ghost use Rattle.lf_domain.specs.Counts.{Counts};
+ghost use Rattle.lf_domain.specs.Counts.{Counts, IsDomain};
 ghost use Rattle.lf_domain.specs.OneEdge.{MayCount};
 ghost use Rattle.lf_graph.specs.RowChanges.{with_new_row};
 ghost use Rattle.lf_graph.specs.StoredRows.{IsNewName, SameByOwner};
@@ -31,8 +32,11 @@ ghost use Rattle.lf_heap.specs.Following.{Follows};
 ghost use Rattle.lf_settle.specs.Drops.{SameCapacity};
 
 use crate::access::{Target, access_of};
+use crate::questions::{answer, fault_of};
 use lf_barrier::{apply_write, plan_write};
-use lf_base::{Fault, HeapFail, Key, MOST_MADE, ObjId, OutOfMemory, Owner, Steps, Value};
+use lf_base::{
+    Answer, Fault, HeapFail, Key, MOST_MADE, ObjId, OutOfMemory, Owner, Question, Steps, Value,
+};
 use lf_domain::{count_borrow, target_of};
 use lf_graph::Store;
 use lf_regions::RegionTable;
@@ -105,6 +109,27 @@ fn insert_alone<S: Store, L: Ledger>(store: &mut S, o: ObjId, owner: Owner, blan
 {
     let mut steps = Steps::<L>::new(blank);
     store.insert(o, owner, &mut steps);
+}
+
+// Answers a question by steps that nobody sees.
+fn answer_alone<S: Store, L: Ledger>(
+    store: &S,
+    regions: &RegionTable,
+    found: &mut Work,
+    question: Question,
+    v: Value,
+    blank: Blank,
+) -> Option<Answer>
+    requires name { blank.name ≡ L.name }
+    requires parts { blank.parts ≡ L.parts }
+    requires some { 0 < L.parts }
+    requires domain { (s : State) × (IsDomain (S.rows store.now) regions.now s × (2 * length s.rows ≤ found.old.spare)) }
+    ensures answer { (s : State) (at : ℕ) → IsDomain (S.rows store.now) regions.now s → at < length s.slots
+        → slot_at s.slots at ≡ Some v → result ≡ answer_to s question at v }
+    ensures same { found.new ≡ found.old }
+{
+    let mut steps = Steps::<L>::new(blank);
+    answer(store, regions, found, question, v, &mut steps)
 }
 
 // Notes the object of a value, where it has one.
@@ -459,5 +484,37 @@ impl<S: Store> Parts<S> {
         let old = apply_write(&mut self.store, &mut self.regions, plan, steps);
         note(work, old);
         Ok(())
+    }
+
+    /// What a question on a slot answers. It is refused where the slot is unset (`Unset`),
+    /// and where its value has no such answer: on the count of an object that isn't mutable
+    /// (`Kind`), or of a region that isn't there (`NotBridge`). The list is used for regions,
+    /// and left as it was.
+    pub(crate) fn ask(
+        &self,
+        found: &mut Work,
+        question: Question,
+        at: usize,
+    ) -> Result<Answer, Fault>
+        requires there { at < length self.now.state.slots }
+        requires room { 2 * length self.now.state.rows ≤ found.old.spare }
+        ensures answer { GivesAnswer (asked self.now.state question at) result }
+        ensures same { found.new ≡ found.old }
+    {
+        let Some(v) = self.slots[at] else {
+            return Err(Fault::Unset);
+        };
+        let answer = answer_alone::<S, Brand>(
+            &self.store,
+            &self.regions,
+            found,
+            question,
+            v,
+            Blank::new(1),
+        );
+        match answer {
+            Some(answer) => Ok(answer),
+            None => Err(fault_of(question)),
+        }
     }
 }

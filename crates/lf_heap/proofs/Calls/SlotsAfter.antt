@@ -1,0 +1,88 @@
+-- How many slots a call leaves.
+use Rattle.std.proofs.Common.{List, None, Option, Some, [], ap, arith, length, length-append, refl, sym, take, ℕ, ◌+◌, ◌-◌, ◌∙◌, ◌∷◌, ◌≡◌, ◌≤◌}
+use Rattle.std.proofs.lemmas.List.{length-take-le}
+use Rattle.lf_base.specs.declared.faults.Fault.{Fault}
+use Rattle.lf_base.specs.declared.ids.ObjId.{ObjId}
+use Rattle.lf_base.specs.declared.values.Key.{Key}
+use Rattle.lf_base.specs.declared.values.Value.{Value}
+use Rattle.lf_base.specs.declared.values.Value.TheVariants as value
+use Rattle.lf_base.specs.Accesses.{read_refusal, read_value, remove_refusal, remove_result, store_refusal, store_result}
+use Rattle.lf_base.specs.HeapCalls.{Changed, Done, Refused, lift_change, load_change, making_refusal, new_object_change, new_region_change, read_change, take_change, unless_refused, unset_change, unset_refusal, write_change}
+use Rattle.lf_base.specs.Kept.{kept}
+use Rattle.lf_base.specs.Names.{key_of}
+use Rattle.lf_base.specs.Operands.{operand, slot_below, with_last, without_last}
+use Rattle.lf_base.specs.PlainChanges.{next_object, object_result, put_slot, region_result, slot_at, with_slot, with_slot_at}
+use Rattle.lf_base.specs.PlainState.{State}
+use Rattle.lf_heap.proofs.Calls.OperandSlots.{put_down_length, slots_left}
+use Rattle.lf_heap.proofs.Slots.SlotPlaces.{put_length}
+
+-- what is done has the slots of what is left
+slots_of : (r : Option Fault) (x t : State) → unless_refused r x ≡ Done t → t.slots ≡ x.slots
+slots_of None x t e = by (kept x) t e where
+  by : (u t : State) → Done u ≡ Done t → t.slots ≡ u.slots
+  by u t e = cc
+slots_of (Some f) x t e = absurd (cc)
+
+one_more : (s : State) (w : Option Value) → length (with_slot s w).slots ≡ length s.slots + 1
+one_more s w = length-append s.slots (w ∷ [])
+
+fewer : (s : State) (n : ℕ) → n ≤ length s.slots → length (without_last n s).slots + n ≡ length s.slots
+fewer s n h = omega (arith, length-take-le (length s.slots - n) s.slots (omega arith), h)
+
+pub slots_pushed : (s : State) (w : Option Value) → length (with_slot s w).slots ≡ length s.slots + 1
+slots_pushed = one_more
+
+pub slots_popped : (s : State) → 1 ≤ length s.slots → length (without_last 1 s).slots + 1 ≡ length s.slots
+slots_popped s h = fewer s 1 h
+
+pub slots_put : (s : State) (at : ℕ) → 1 ≤ length s.slots → length (with_slot_at (without_last 1 s) at (slot_below s 0)).slots + 1 ≡ length s.slots
+slots_put s at h = put_down_length s at (slot_below s 0) h
+
+pub slots_loaded : (s t : State) (at : ℕ) → load_change at s ≡ Done t → length t.slots ≡ length s.slots + 1
+slots_loaded s t at e = ap length (slots_of (unset_refusal (slot_at s.slots at)) (with_slot s (slot_at s.slots at)) t e) ∙ one_more s (slot_at s.slots at)
+
+pub slots_lifted : (s t : State) (at : ℕ) → lift_change at s ≡ Done t → length t.slots ≡ length s.slots + 1
+slots_lifted s t at e =
+    let lifted : length t.slots ≡ length (with_slot (with_slot_at s at None) (slot_at s.slots at)).slots =
+    ap length (slots_of (unset_refusal (slot_at s.slots at)) (with_slot (with_slot_at s at None) (slot_at s.slots at)) t e) in
+    omega (arith, lifted, one_more (with_slot_at s at None) (slot_at s.slots at), put_length s.slots at None)
+
+pub slots_unset : (s t : State) (at : ℕ) → unset_change at s ≡ Done t → length t.slots ≡ length s.slots
+slots_unset s t at e = ap length (slots_of (unset_refusal (slot_at s.slots at)) (with_slot_at s at None) t e) ∙ put_length s.slots at None
+
+pub slots_with_object : (s t : State) → new_object_change s ≡ Done t → length t.slots ≡ length s.slots + 1
+slots_with_object s t e =
+    ap length (slots_of (making_refusal s) (with_slot (object_result s) (Some (value.Obj (next_object s)))) t e) ∙ one_more (object_result s) (Some (value.Obj (next_object s)))
+
+pub slots_with_region : (s t : State) → new_region_change s ≡ Done t → length t.slots ≡ length s.slots + 1
+slots_with_region s t e =
+    ap length (slots_of (making_refusal s) (with_slot (region_result s) (Some (value.Obj (next_object s)))) t e) ∙ one_more (region_result s) (Some (value.Obj (next_object s)))
+
+become : (s : State) (w : Option Value) → 2 ≤ length s.slots → length (with_last 2 w s).slots + 1 ≡ length s.slots
+become s w h = omega (arith, one_more (without_last 2 s) w, fewer s 2 h)
+
+pub slots_read : (s t : State) → 2 ≤ length s.slots → read_change s ≡ Done t → length t.slots + 1 ≡ length s.slots
+slots_read s t h e =
+    let v = read_value s (operand s 1) (key_of (operand s 0)) in
+    let same : length t.slots ≡ length (with_last 2 v s).slots = ap length (slots_of (read_refusal s (operand s 1) (operand s 0)) (with_last 2 v s) t e) in
+    omega (arith, same, become s v h)
+
+pub slots_taken : (s t : State) → 2 ≤ length s.slots → take_change s ≡ Done t → length t.slots + 1 ≡ length s.slots
+slots_taken s t h e =
+    let v = read_value s (operand s 1) (key_of (operand s 0)) in
+    let left = remove_result s (operand s 1) (key_of (operand s 0)) in
+    let many : length left.slots ≡ length s.slots = ap length (slots_left s (operand s 1) (key_of (operand s 0))) in
+    let same : length t.slots ≡ length (with_last 2 v left).slots = ap length (slots_of (remove_refusal s (operand s 1) (operand s 0)) (with_last 2 v left) t e) in
+    omega (arith, same, many, become left v (omega (arith, many, h)))
+
+slots_stored : (s : State) (target : Value) (k : Option Key) (v : Value) → (store_result s target k v).slots ≡ s.slots
+slots_stored s (value.Obj o) (Some k) v = refl
+slots_stored s (value.Cown c) (Some k) v = refl
+slots_stored s _ _ v = refl
+
+pub slots_written : (s t : State) → 3 ≤ length s.slots → write_change s ≡ Done t → length t.slots + 3 ≡ length s.slots
+slots_written s t h e =
+    let left = store_result s (operand s 2) (key_of (operand s 1)) (operand s 0) in
+    let many : length left.slots ≡ length s.slots = ap length (slots_stored s (operand s 2) (key_of (operand s 1)) (operand s 0)) in
+    let same : length t.slots ≡ length (without_last 3 left).slots = ap length (slots_of (store_refusal s (operand s 2) (operand s 1) (operand s 0)) (without_last 3 left) t e) in
+    omega (arith, same, many, fewer left 3 (omega (arith, many, h)))
