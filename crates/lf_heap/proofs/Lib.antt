@@ -1,5 +1,6 @@
 pub mod States
 pub mod Slots
 pub mod Fields
-pub mod Calls
+pub mod RegionWalks
 pub mod Answered
+pub mod Calls

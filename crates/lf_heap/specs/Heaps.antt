@@ -1,5 +1,7 @@
 -- What a heap is to contracts, and what it keeps.
 use Rattle.std.specs.Prelude.{List, Option, [], length, ℕ, ◌*◌, ◌+◌, ◌<◌, ◌^◌, ◌≡◌, ◌≤◌}
+use Rattle.lf_base.specs.declared.questions.Answer.{Answer}
+use Rattle.lf_base.specs.declared.questions.Answer.TheVariants.{Number}
 use Rattle.lf_base.specs.declared.values.Value.{Value}
 use Rattle.lf_base.specs.EdgeLists.{cells}
 use Rattle.lf_base.specs.PlainChanges.{with_slots}
@@ -37,13 +39,19 @@ pub record HasParts (rows : List CountedRow) (regions : List Region) (most : ℕ
   pub few : most < 2 ^ 62
   pub slots : length s.slots ≤ 2 ^ 62
 
--- between two calls all rows stay, no suspect is left, and there is room for two suspects for each row and four more
+-- between two calls all rows stay, which are few, no suspect is left, and there is room for two suspects for each row and four more
 pub record IsAtRest (s : State) (work : WorkList) (most : ℕ) : Type 0 where
   pub settled : Settled s
   pub none_left : work.suspects ≡ []
   pub rows : length s.rows ≤ most
+  pub few : most ≤ 2 ^ 61
   pub room : 2 * most + 4 ≤ work.spare
 
 -- slots and room for slots are as many as before
 abbrev pub SameRoom : Domain → Domain → Type 0
 SameRoom old new = new.spare + length new.state.slots ≡ old.spare + length old.state.slots
+
+-- a number that fits an integer of the script
+abbrev pub FitsInteger : Answer → Type 0
+FitsInteger (Number n) = n < 2 ^ 63
+FitsInteger _ = Unit {0}

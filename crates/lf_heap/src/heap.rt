@@ -1,6 +1,6 @@
 //! A domain as its users see it: each call leaves a state of which all rows stay.
 
-ghost use Rattle.std.specs.Prelude.{◌≡◌, ◌+◌, ◌*◌, ◌-◌, ◌<◌, ◌≤◌, [], IfOk, OnOk, length};
+ghost use Rattle.std.specs.Prelude.{◌≡◌, ◌+◌, ◌*◌, ◌-◌, ◌^◌, ◌<◌, ◌≤◌, [], IfOk, OnOk, length};
 ghost use Rattle.lf_base.specs.declared.values.Value.{Value as Item};
 ghost use Rattle.lf_base.specs.Asking.{GivesAnswer, asked};
 ghost use Rattle.lf_base.specs.HeapCalls.{Gives, GivesOrWants, lift_change, load_change, new_object_change, new_region_change};
@@ -9,7 +9,7 @@ ghost use Rattle.lf_base.specs.Operands.{operand, popped, pushed, put_down, slot
 ghost use Rattle.lf_base.specs.PlainChanges.{first_state};
 ghost use Rattle.lf_base.specs.SettledStates.{Settled};
 ghost use Rattle.lf_base.specs.WellFormed.{SlotMayHold};
-ghost use Rattle.lf_heap.specs.Heaps.{SameRoom};
+ghost use Rattle.lf_heap.specs.Heaps.{FitsInteger, SameRoom};
 
 use crate::parts::Parts;
 use lf_base::{Answer, Fault, HeapFail, OutOfMemory, Question, Steps, Value};
@@ -22,6 +22,10 @@ use std::sync::ledger::Ledger;
 /// One behaviour's domain: the objects that it made, in regions or local, and its slots.
 /// Contracts see the state, and the number of slots for which there is room. Between two
 /// calls the state is well-formed, its counts are right, and all its rows stay.
+///
+/// A call that takes a reference away ends with settling: at most 64 calls on the store,
+/// and 64 for each suspect, of which it notes four at most, and for each row and field that
+/// is dropped.
 #[derive(Drop)]
 pub struct Heap<S: Store> {
     parts: Parts<S>,
@@ -41,17 +45,23 @@ impl<S: Store> Model for Heap<S> {
     ghost invariant = { λ h. IsAtRest h.parts.state h.work h.rows };
 }
 
+// The most rows that a heap has room for.
+const MOST_ROWS: usize = 2_305_843_009_213_693_952;
+
 // Makes room for the suspects that there may be with one row more, and gives that number
 // of rows.
 fn watch_one_more(work: &mut Work, rows: usize) -> Result<usize, OutOfMemory>
     ensures suspects { work.new.suspects ≡ work.old.suspects }
     ensures rows { IfOk result (λ more. more ≡ rows + 1) }
+    ensures few { IfOk result (λ more. more ≤ 2 ^ 61) }
     ensures enough { IfOk result (λ more. 2 * more + 4 ≤ work.new.spare) }
     ensures room { work.old.spare ≤ work.new.spare }
 {
-    let more = rows.checked_add(1).ok_or(OutOfMemory)?;
-    let twice = more.checked_mul(2).ok_or(OutOfMemory)?;
-    work.reserve(twice.checked_add(4).ok_or(OutOfMemory)?)?;
+    if rows >= MOST_ROWS {
+        return Err(OutOfMemory);
+    }
+    let more = rows + 1;
+    work.reserve(2 * more + 4)?;
     Ok(more)
 }
 
@@ -97,20 +107,22 @@ impl<S: Store> Heap<S> {
     }
 
     /// Adds a slot, set or unset. It makes two calls on the store, and none for a value
-    /// that is no object.
+    /// that is no object: no call here does for such a value.
     pub fn push(&mut self, v: Option<Value>)
         requires room { 1 ≤ self.old.spare }
         requires may { (u : Item) → v ≡ Some u → SlotMayHold self.old.state u }
         ensures state { self.new.state ≡ pushed v self.old.state }
+        ensures slots { length self.new.state.slots ≡ length self.old.state.slots + 1 }
         ensures room { SameRoom self.old self.new }
     {
         self.parts.add_slot(v);
     }
 
-    /// Drops the last slot.
+    /// Drops the last slot. It makes four calls on the store at most, but for settling.
     pub fn pop<L: Ledger>(&mut self, steps: &mut Steps<L>)
         requires { 1 ≤ length self.old.state.slots }
         ensures state { self.new.state ≡ popped self.old.state }
+        ensures slots { length self.new.state.slots + 1 ≡ length self.old.state.slots }
         ensures room { SameRoom self.old self.new }
     {
         self.parts.drop_slot(&mut self.work, steps);
@@ -125,11 +137,13 @@ impl<S: Store> Heap<S> {
         self.parts.slot(self.parts.len() - 1 - down)
     }
 
-    /// Pushes a copy of a slot. It is refused where that slot is unset (`Unset`).
+    /// Pushes a copy of a slot. It is refused where that slot is unset (`Unset`). It makes
+    /// two calls on the store at most.
     pub fn load(&mut self, at: usize) -> Result<(), Fault>
         requires there { at < length self.old.state.slots }
         requires room { 1 ≤ self.old.spare }
         ensures change { Gives (load_change at self.old.state) result self.old.state self.new.state }
+        ensures slots { OnOk result (length self.new.state.slots ≡ length self.old.state.slots + 1) }
         ensures room { SameRoom self.old self.new }
     {
         let v = self.parts.slot(at);
@@ -141,11 +155,12 @@ impl<S: Store> Heap<S> {
     }
 
     /// Moves a slot to a further one and leaves it unset. It is refused where that slot
-    /// is unset (`Unset`).
+    /// is unset (`Unset`). It makes no call on the store.
     pub fn lift(&mut self, at: usize) -> Result<(), Fault>
         requires there { at < length self.old.state.slots }
         requires room { 1 ≤ self.old.spare }
         ensures change { Gives (lift_change at self.old.state) result self.old.state self.new.state }
+        ensures slots { OnOk result (length self.new.state.slots ≡ length self.old.state.slots + 1) }
         ensures room { SameRoom self.old self.new }
     {
         if self.parts.slot(at).is_none() {
@@ -155,20 +170,24 @@ impl<S: Store> Heap<S> {
         Ok(())
     }
 
-    /// Moves the last slot to a place below it.
+    /// Moves the last slot to a place below it. It makes four calls on the store at most, but
+    /// for settling.
     pub fn put<L: Ledger>(&mut self, at: usize, steps: &mut Steps<L>)
         requires { at + 1 < length self.old.state.slots }
         ensures state { self.new.state ≡ put_down at self.old.state }
+        ensures slots { length self.new.state.slots + 1 ≡ length self.old.state.slots }
         ensures room { SameRoom self.old self.new }
     {
         self.parts.move_last(at, &mut self.work, steps);
         self.parts.settle(&mut self.work, steps);
     }
 
-    /// Leaves a slot unset. It is refused where that slot is unset (`Unset`).
+    /// Leaves a slot unset. It is refused where that slot is unset (`Unset`). It makes four
+    /// calls on the store at most, but for settling.
     pub fn unset<L: Ledger>(&mut self, at: usize, steps: &mut Steps<L>) -> Result<(), Fault>
         requires { at < length self.old.state.slots }
         ensures change { Gives (unset_change at self.old.state) result self.old.state self.new.state }
+        ensures slots { OnOk result (length self.new.state.slots ≡ length self.old.state.slots) }
         ensures room { SameRoom self.old self.new }
     {
         if self.parts.slot(at).is_none() {
@@ -192,10 +211,11 @@ impl<S: Store> Heap<S> {
 
     /// Makes a local object and pushes it. It is refused where the behaviour has made
     /// as many objects and cowns as it may (`TooManyObjects`). After `OutOfMemory`, which
-    /// may come at any time, all is as it was.
+    /// may come at any time, all is as it was. It makes four calls on the store.
     pub fn new_object(&mut self) -> Result<(), HeapFail>
         requires { 1 ≤ self.old.spare }
         ensures change { GivesOrWants (new_object_change self.old.state) result self.old.state self.new.state }
+        ensures slots { OnOk result (length self.new.state.slots ≡ length self.old.state.slots + 1) }
         ensures room { SameRoom self.old self.new }
     {
         let rows = watch_one_more(&mut self.work, self.rows)?;
@@ -210,6 +230,7 @@ impl<S: Store> Heap<S> {
     pub fn new_region(&mut self) -> Result<(), HeapFail>
         requires { 1 ≤ self.old.spare }
         ensures change { GivesOrWants (new_region_change self.old.state) result self.old.state self.new.state }
+        ensures slots { OnOk result (length self.new.state.slots ≡ length self.old.state.slots + 1) }
         ensures room { SameRoom self.old self.new }
     {
         let rows = watch_one_more(&mut self.work, self.rows)?;
@@ -222,10 +243,12 @@ impl<S: Store> Heap<S> {
     /// Reads a field: the last two slots are a target and a key, and become its value. It
     /// is refused where the target is neither an object nor a cown (`NotObject`), then where
     /// the key is neither a text nor an integer (`Kind`), then for a cown, since none is held
-    /// (`NotAcquired`), and for an object where the field isn't there (`NoField`).
+    /// (`NotAcquired`), and for an object where the field isn't there (`NoField`). It makes
+    /// twelve calls on the store at most, but for settling.
     pub fn read<L: Ledger>(&mut self, steps: &mut Steps<L>) -> Result<(), Fault>
         requires { 2 ≤ length self.old.state.slots }
         ensures change { Gives (read_change self.old.state) result self.old.state self.new.state }
+        ensures slots { OnOk result (length self.new.state.slots + 1 ≡ length self.old.state.slots) }
         ensures room { SameRoom self.old self.new }
     {
         let target = self.operand(1);
@@ -243,10 +266,12 @@ impl<S: Store> Heap<S> {
     /// as `read` is, but needs no field that is there, and then by the first of these that its
     /// result would show: a frozen target (`FrozenWrite`), an edge to the inside of another
     /// region (`Interior`), a bridge with two owners (`SecondOwner`), owners that go round
-    /// (`Cycle`). After `OutOfMemory`, which may come at any time, all is as it was.
+    /// (`Cycle`). After `OutOfMemory`, which may come at any time, all is as it was. To a local object
+    /// it makes 19 calls on the store at most, but for settling.
     pub fn write<L: Ledger>(&mut self, steps: &mut Steps<L>) -> Result<(), HeapFail>
         requires { 3 ≤ length self.old.state.slots }
         ensures change { GivesOrWants (write_change self.old.state) result self.old.state self.new.state }
+        ensures slots { OnOk result (length self.new.state.slots + 3 ≡ length self.old.state.slots) }
         ensures room { SameRoom self.old self.new }
     {
         let target = self.operand(2);
@@ -262,10 +287,12 @@ impl<S: Store> Heap<S> {
 
     /// Takes a field: the last two slots are a target and a key, and become its value; the
     /// object is left without the field. It is refused as `read` is, and before `NoField`
-    /// where the object is frozen (`FrozenWrite`).
+    /// where the object is frozen (`FrozenWrite`). It makes 17 calls on the store at most, but
+    /// for settling.
     pub fn take<L: Ledger>(&mut self, steps: &mut Steps<L>) -> Result<(), Fault>
         requires { 2 ≤ length self.old.state.slots }
         ensures change { Gives (take_change self.old.state) result self.old.state self.new.state }
+        ensures slots { OnOk result (length self.new.state.slots + 1 ≡ length self.old.state.slots) }
         ensures room { SameRoom self.old self.new }
     {
         let target = self.operand(1);
@@ -280,7 +307,7 @@ impl<S: Store> Heap<S> {
 
     /// What a question on a variable answers. It is refused where the variable is unset
     /// (`Unset`), where the count of an object is asked that isn't mutable (`Kind`), and where
-    /// something else but a bridge's region is asked for (`NotBridge`). It takes no memory and
+    /// something else but a bridge's region is asked for (`NotBridge`). A number is below 2^63. It takes no memory and
     /// changes nothing: regions are listed in the room for suspects for as long as it lasts,
     /// which is why it wants the heap for itself. On counts and labels it makes at most two
     /// calls on the store; openness is found by a walk down the rows of what the region owns,
@@ -288,6 +315,7 @@ impl<S: Store> Heap<S> {
     pub fn ask(&mut self, question: Question, at: usize) -> Result<Answer, Fault>
         requires { at < length self.old.state.slots }
         ensures answer { GivesAnswer (asked self.old.state question at) result }
+        ensures few { IfOk result FitsInteger }
         ensures same { self.new ≡ self.old }
     {
         self.parts.ask(&mut self.work, question, at)

@@ -13,7 +13,6 @@
 
 mod access;
 mod heap;
-pub mod laws;
 mod openness;
 mod parts;
 mod questions;

@@ -1,7 +1,7 @@
 //! The parts of a domain, which count its edges. Rows may be left that nothing justifies:
 //! the heap settles them at the end of each call.
 
-ghost use Rattle.std.specs.Prelude.{◌≡◌, ◌+◌, ◌++◌, ◌*◌, ◌-◌, ◌<◌, ◌≤◌, [], List, None, Some, IfOk, OnErr, OnOk, length, map, ℕ};
+ghost use Rattle.std.specs.Prelude.{◌≡◌, ◌+◌, ◌++◌, ◌*◌, ◌-◌, ◌<◌, ◌≤◌, [], List, None, Some, IfOk, IfSome, OnErr, OnOk, length, map, ℕ, ◌^◌};
 ghost use Rattle.std.specs.Result.{result_err};
 ghost use Rattle.lf_base.specs.declared.faults.Fault.TheVariants.{NotAcquired};
 ghost use Rattle.lf_base.specs.declared.ids.ObjId.{ObjId as Name};
@@ -29,6 +29,7 @@ ghost use Rattle.lf_domain.specs.OneEdge.{MayCount};
 ghost use Rattle.lf_graph.specs.RowChanges.{with_new_row};
 ghost use Rattle.lf_graph.specs.StoredRows.{IsNewName, SameByOwner};
 ghost use Rattle.lf_heap.specs.Following.{Follows};
+ghost use Rattle.lf_heap.specs.Heaps.{FitsInteger};
 ghost use Rattle.lf_settle.specs.Drops.{SameCapacity};
 
 use crate::access::{Target, access_of};
@@ -126,6 +127,7 @@ fn answer_alone<S: Store, L: Ledger>(
     requires domain { (s : State) × (IsDomain (S.rows store.now) regions.now s × (2 * length s.rows ≤ found.old.spare)) }
     ensures answer { (s : State) (at : ℕ) → IsDomain (S.rows store.now) regions.now s → at < length s.slots
         → slot_at s.slots at ≡ Some v → result ≡ answer_to s question at v }
+    ensures few { IfSome result (λ a. (s : State) → IsDomain (S.rows store.now) regions.now s → length s.rows ≤ 2 ^ 61 → FitsInteger a) }
     ensures same { found.new ≡ found.old }
 {
     let mut steps = Steps::<L>::new(blank);
@@ -498,7 +500,9 @@ impl<S: Store> Parts<S> {
     ) -> Result<Answer, Fault>
         requires there { at < length self.now.state.slots }
         requires room { 2 * length self.now.state.rows ≤ found.old.spare }
+        requires few { length self.now.state.rows ≤ 2 ^ 61 }
         ensures answer { GivesAnswer (asked self.now.state question at) result }
+        ensures few { IfOk result FitsInteger }
         ensures same { found.new ≡ found.old }
     {
         let Some(v) = self.slots[at] else {

@@ -1,6 +1,6 @@
 //! What questions on a variable answer, by the store and the table of regions.
 
-ghost use Rattle.std.specs.Prelude.{◌≡◌, ◌*◌, ◌<◌, ◌≤◌, List, None, Some, cond, length, ℕ};
+ghost use Rattle.std.specs.Prelude.{◌≡◌, ◌*◌, ◌<◌, ◌≤◌, List, None, Some, IfSome, cond, length, ℕ, ◌^◌};
 ghost use Rattle.lf_base.specs.Asking.{answer_to, fault_of_question};
 ghost use Rattle.lf_base.specs.Owners as owners;
 ghost use Rattle.lf_base.specs.Owners.{is_in};
@@ -9,6 +9,7 @@ ghost use Rattle.lf_base.specs.PlainState.{State};
 ghost use Rattle.lf_base.specs.Questions.{borrowed_answer, is_closed_answer, label_by, open_children_answer, refs_answer};
 ghost use Rattle.lf_base.specs.Questions as questions;
 ghost use Rattle.lf_domain.specs.Counts.{IsDomain};
+ghost use Rattle.lf_heap.specs.Heaps.{FitsInteger};
 ghost use Rattle.lf_regions.specs.declared.region.Region.{Region};
 
 use crate::openness::{is_open_below, open_children};
@@ -20,7 +21,8 @@ use std::sync::ledger::Ledger;
 
 // How many references lead to a mutable object; `None` for any other value.
 fn refs_of<S: Store, L: Ledger>(store: &S, v: Value, steps: &mut Steps<L>) -> Option<u64>
-    ensures { (regions : List Region) (s : State) → IsDomain (S.rows store.now) regions s → result ≡ refs_answer s v }
+    ensures count { (regions : List Region) (s : State) → IsDomain (S.rows store.now) regions s → result ≡ refs_answer s v }
+    ensures few { IfSome result (λ n. (regions : List Region) (s : State) → IsDomain (S.rows store.now) regions s → n < 2 ^ 63) }
 {
     let o = v.object()?;
     if store.owner(o, steps).is_none() {
@@ -58,7 +60,8 @@ fn borrowed_of<S: Store, L: Ledger>(
     steps: &mut Steps<L>,
 ) -> Option<u64>
     requires { (s : State) × IsDomain (S.rows store.now) regions.now s }
-    ensures { (s : State) → IsDomain (S.rows store.now) regions.now s → result ≡ borrowed_answer s v }
+    ensures count { (s : State) → IsDomain (S.rows store.now) regions.now s → result ≡ borrowed_answer s v }
+    ensures few { IfSome result (λ n. (s : State) → IsDomain (S.rows store.now) regions.now s → n < 2 ^ 63) }
 {
     let r = bridge_of(store, v, steps)?;
     Some(regions.borrowed(r))
@@ -97,6 +100,7 @@ fn open_children_of<S: Store, L: Ledger>(
 ) -> Option<u64>
     requires { (s : State) × (IsDomain (S.rows store.now) regions.now s × (2 * length s.rows ≤ found.old.spare)) }
     ensures answer { (s : State) → IsDomain (S.rows store.now) regions.now s → result ≡ open_children_answer s v }
+    ensures few { IfSome result (λ n. (s : State) → IsDomain (S.rows store.now) regions.now s → length s.rows ≤ 2 ^ 61 → n < 2 ^ 63) }
     ensures same { found.new ≡ found.old }
 {
     let r = bridge_of(store, v, steps)?;
@@ -149,6 +153,7 @@ pub(crate) fn answer<S: Store, L: Ledger>(
     requires { (s : State) × (IsDomain (S.rows store.now) regions.now s × (2 * length s.rows ≤ found.old.spare)) }
     ensures answer { (s : State) (at : ℕ) → IsDomain (S.rows store.now) regions.now s → at < length s.slots
         → slot_at s.slots at ≡ Some v → result ≡ answer_to s question at v }
+    ensures few { IfSome result (λ a. (s : State) → IsDomain (S.rows store.now) regions.now s → length s.rows ≤ 2 ^ 61 → FitsInteger a) }
     ensures same { found.new ≡ found.old }
 {
     match question {

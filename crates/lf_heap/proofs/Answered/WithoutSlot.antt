@@ -1,5 +1,5 @@
 -- A state in which a variable that holds a bridge is unset: one borrow less of that region, and nothing else.
-use Rattle.std.proofs.Common.{Bool, List, None, Option, Some, [], ap, arith, cond, count_by, false, inl, inr, length, ltb, not, refl, subst, sym, true, ℕ, ◌&&◌, ◌++◌, ◌+◌, ◌<◌, ◌∙◌, ◌∷◌, ◌≡◌, ◌≤◌, ◌⊎◌}
+use Rattle.std.proofs.Common.{Bool, None, Some, ap, arith, cond, count_by, false, inl, inr, length, not, refl, subst, sym, true, ℕ, ◌&&◌, ◌++◌, ◌+◌, ◌<◌, ◌∙◌, ◌≡◌, ◌≤◌}
 use Rattle.std.specs.List.{list_any}
 use Rattle.lf_base.specs.declared.ids.ObjId.{ObjId}
 use Rattle.lf_base.specs.declared.values.Owner.TheVariants.{In}
@@ -11,13 +11,11 @@ use Rattle.lf_base.specs.Owners.{bridge_of, is_bridge, is_in, owner_in}
 use Rattle.lf_base.specs.Ownership.{Above, is_from, owns}
 use Rattle.lf_base.specs.PlainChanges.{slot_at, with_slot_at}
 use Rattle.lf_base.specs.PlainState.{State}
-use Rattle.lf_base.specs.Questions.{is_closed_answer, of_bridge}
 use Rattle.lf_base.specs.WalkCounts.{borrowed, borrows, is_open}
 use Rattle.lf_base.specs.WellFormed.{WellFormed}
 use Rattle.lf_base.proofs.NameLemmas.SameNames.{same_name_is, same_name_itself}
 use Rattle.lf_domain.proofs.EdgeTests.{any_counts, count_cons, some_of}
 use Rattle.lf_laws.proofs.Edges.SlotEdges.{all_put_slot}
-use Rattle.lf_laws.proofs.Losses.CountsFall.{positive_test}
 use Rattle.lf_laws.proofs.Owners.OwnersGoRound.{above_before, none_above}
 use Rattle.lf_laws.proofs.Owners.PathsOfSets.{open_path}
 use Rattle.lf_laws.proofs.Rows.OwnerTests.{in_region}

@@ -1,5 +1,5 @@
 -- A heap at rest, through a call and at rest again.
-use Rattle.std.proofs.Common.{List, None, Option, Some, [], ap, arith, cond, false, inl, inr, is_some, length, refl, subst, suc, sym, true, zero, ℕ, ◌*◌, ◌+◌, ◌++◌, ◌∙◌, ◌∷◌, ◌≡◌, ◌≤◌}
+use Rattle.std.proofs.Common.{List, None, Option, Some, [], ap, arith, cond, false, inl, inr, is_some, length, refl, subst, suc, sym, true, zero, ℕ, ◌*◌, ◌+◌, ◌++◌, ◌^◌, ◌∙◌, ◌∷◌, ◌≡◌, ◌≤◌}
 use Rattle.lf_base.specs.declared.faults.Fault.{Fault}
 use Rattle.lf_base.specs.declared.faults.Fault.TheVariants.{Unset}
 use Rattle.lf_base.specs.declared.ids.ObjId.{ObjId}
@@ -64,12 +64,13 @@ module _ (s : State) (work : WorkList) (most : ℕ) (rest : IsAtRest s work most
       settled = settled;
       none_left = none;
       rows = omega (arith, fewer, f.as_many, rest.rows);
+      few = rest.few;
       room = omega (arith, rest.room, spare, f.capacity);
     }
 
   -- ---- with other slots alone, of which none goes
   rests_on : (u : State) → Settled u → length u.rows ≤ length s.rows → IsAtRest u work most
-  rests_on u settled fewer = record { settled = settled; none_left = rest.none_left; rows = omega (arith, fewer, rest.rows); room = rest.room }
+  rests_on u settled fewer = record { settled = settled; none_left = rest.none_left; rows = omega (arith, fewer, rest.rows); few = rest.few; room = rest.room }
 
   pub push_rests : (w : Option Value) → MayHold s w → IsAtRest (with_slot s w) work most
   push_rests w may = rests_on (with_slot s w) (record { well_formed = push_well_formed s rest.settled.well_formed w may; all_stay = slot_more s w rest.settled.all_stay }) (omega arith)
@@ -113,12 +114,13 @@ module _ (s : State) (work : WorkList) (most : ℕ) (rest : IsAtRest s work most
     may : MayHold (with_row s w) (Some (Obj (next_object s)))
     may v e = subst (SlotMayHold (with_row s w)) (some_is (Obj (next_object s)) v e) (new_may_be_held s w rest.settled.well_formed kind)
 
-    pub made_rests : (new : WorkList) (rows : ℕ) → new.suspects ≡ work.suspects → rows ≡ most + 1 → 2 * rows + 4 ≤ new.spare → IsAtRest u new rows
-    made_rests new rows none one room =
+    pub made_rests : (new : WorkList) (rows : ℕ) → new.suspects ≡ work.suspects → rows ≡ most + 1 → rows ≤ 2 ^ 61 → 2 * rows + 4 ≤ new.spare → IsAtRest u new rows
+    made_rests new rows none one few room =
         subst (λ x. IsAtRest x new rows) (sym reached) (record {
           settled = record { well_formed = push_well_formed (with_row s w) (new_row_keeps s w rest.settled.well_formed kind) (Some (Obj (next_object s))) may; all_stay = stays };
           none_left = none ∙ rest.none_left;
           rows = omega (arith, insert_length (record { name = next_object s; owner = w; fields = [] }) s.rows, rest.rows, one);
+          few = few;
           room = room;
         })
 

@@ -1,17 +1,16 @@
 -- How many slots a call leaves.
-use Rattle.std.proofs.Common.{List, None, Option, Some, [], ap, arith, length, length-append, refl, sym, take, ℕ, ◌+◌, ◌-◌, ◌∙◌, ◌∷◌, ◌≡◌, ◌≤◌}
+use Rattle.std.proofs.Common.{None, Option, Some, [], ap, arith, length, length-append, refl, ℕ, ◌+◌, ◌-◌, ◌∙◌, ◌∷◌, ◌≡◌, ◌≤◌}
 use Rattle.std.proofs.lemmas.List.{length-take-le}
 use Rattle.lf_base.specs.declared.faults.Fault.{Fault}
-use Rattle.lf_base.specs.declared.ids.ObjId.{ObjId}
 use Rattle.lf_base.specs.declared.values.Key.{Key}
 use Rattle.lf_base.specs.declared.values.Value.{Value}
 use Rattle.lf_base.specs.declared.values.Value.TheVariants as value
 use Rattle.lf_base.specs.Accesses.{read_refusal, read_value, remove_refusal, remove_result, store_refusal, store_result}
-use Rattle.lf_base.specs.HeapCalls.{Changed, Done, Refused, lift_change, load_change, making_refusal, new_object_change, new_region_change, read_change, take_change, unless_refused, unset_change, unset_refusal, write_change}
+use Rattle.lf_base.specs.HeapCalls.{Done, lift_change, load_change, making_refusal, new_object_change, new_region_change, read_change, take_change, unless_refused, unset_change, unset_refusal, write_change}
 use Rattle.lf_base.specs.Kept.{kept}
 use Rattle.lf_base.specs.Names.{key_of}
 use Rattle.lf_base.specs.Operands.{operand, slot_below, with_last, without_last}
-use Rattle.lf_base.specs.PlainChanges.{next_object, object_result, put_slot, region_result, slot_at, with_slot, with_slot_at}
+use Rattle.lf_base.specs.PlainChanges.{next_object, object_result, region_result, slot_at, with_slot, with_slot_at}
 use Rattle.lf_base.specs.PlainState.{State}
 use Rattle.lf_heap.proofs.Calls.OperandSlots.{put_down_length, slots_left}
 use Rattle.lf_heap.proofs.Slots.SlotPlaces.{put_length}

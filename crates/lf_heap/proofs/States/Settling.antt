@@ -45,7 +45,7 @@ module _ (s : State) where
   no_more_cells = omega (arith, sub_sum (λ (r : Row). length r.fields) kept_sub)
 
   -- fewer regions than rows
-  few_bridges : length (bridges s) ≤ length s.rows
+  pub few_bridges : length (bridges s) ≤ length s.rows
   few_bridges = omega (arith, length_filter_le (is_bridge s.rows) (names s.rows), length-map s.rows (λ (r : Row). r.name))
 
   -- room for two suspects for each row is room for all that is justified

@@ -1,4 +1,4 @@
-use Rattle.std.proofs.Common.{None, Some, ap, arith, not, sym, ◌<◌, ◌∙◌, ◌≡◌, ◌≤◌}
+use Rattle.std.proofs.Common.{None, Some, ap, arith, not, sym, ◌<◌, ◌∙◌, ◌≤◌}
 use Rattle.lf_base.specs.PlainChanges.{with_slot_at}
 use Rattle.lf_base.specs.Questions.{of_bridge}
 use Rattle.lf_base.specs.WalkCounts.{borrowed, is_open}

@@ -5,6 +5,7 @@ use Rattle.lf_base.specs.PlainState.{State}
 use Rattle.lf_heap.specs.Heaps.{Domain, IsAtRest}
 use Rattle.lf_heap.proofs.Calls.Rests.{done, lift_rests, lifted_is, set_is}
 use Rattle.lf_heap.proofs.Slots.SlotPlaces.{put_length}
+use Rattle.lf_heap.proofs.Calls.SlotsAfter.{slots_lifted}
 use Rattle.lf_heap.proofs.heap.Heap.lift.Goals as goal
 
 pub invariant_of-self : goal.invariant_of-self
@@ -30,3 +31,6 @@ returns-clause-room g c =
       ap (λ (d : Domain). d.spare) c.self.view_is,
       ap (λ (d : Domain). length d.state.slots) c.self.view_is,
     )
+
+pub returns-clause-slots : goal.returns-clause-slots
+returns-clause-slots g c = slots_lifted c.args.self.now.state c.lift_slot.new.self.state c.args.at (returns-clause-change g c)

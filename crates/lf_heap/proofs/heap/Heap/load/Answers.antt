@@ -5,6 +5,7 @@ use Rattle.lf_heap.specs.Heaps.{Domain, IsAtRest}
 use Rattle.lf_heap.proofs.Calls.Rests.{done, push_rests, pushed_is, set_is}
 use Rattle.lf_heap.proofs.Slots.SlotLosses.{held_value}
 use Rattle.lf_heap.proofs.Slots.SlotPlaces.{slot_member}
+use Rattle.lf_heap.proofs.Calls.SlotsAfter.{slots_loaded}
 use Rattle.lf_heap.proofs.heap.Heap.load.Goals as goal
 
 pub add_slot-requires-clause-may : goal.add_slot-requires-clause-may
@@ -25,3 +26,6 @@ returns-clause-change g c =
     subst (λ (d : Domain). load_change c.args.at d.state ≡ Done c.add_slot.new.self.state) c.self.view_is
     (done (unset_refusal w) (with_slot s w) c.add_slot.new.self.state (ap unset_refusal (sym c.slot-v.ensures) ∙ set_is c.slot-v.result (c.is_none.ensures ∙ ap not c.if-is_none.false))
     (c.add_slot.ensures.state ∙ ap (with_slot s) c.slot-v.ensures ∙ pushed_is c.self.inside.parts.state c.self.inside.work c.self.inside.rows c.self.invariant w))
+
+pub returns-clause-slots : goal.returns-clause-slots
+returns-clause-slots g c = slots_loaded c.args.self.now.state c.add_slot.new.self.state c.args.at (returns-clause-change g c)

@@ -15,3 +15,13 @@ returns-clause-room g c =
     let view = ap (λ (d : Domain). d.spare) c.self.view_is in
     let state = ap (λ (t : State). length t.slots) c.move_last.ensures.state in
     omega (arith, c.settle.ensures.room, c.move_last.ensures.room, ap (λ (t : State). length t.slots) c.settle.ensures.state, state, view, ap (λ (d : Domain). length d.state.slots) c.self.view_is, put_down_length c.self.inside.parts.state c.args.at (slot_below c.self.inside.parts.state 0) (omega (arith, c.requires, ap (λ (d : Domain). length d.state.slots) c.self.view_is)))
+
+pub returns-clause-slots : goal.returns-clause-slots
+returns-clause-slots g c =
+    omega (
+      arith,
+      ap (λ (t : State). length t.slots) c.settle.ensures.state,
+      ap (λ (t : State). length t.slots) c.move_last.ensures.state,
+      ap (λ (d : Domain). length d.state.slots) c.self.view_is,
+      put_down_length c.self.inside.parts.state c.args.at (slot_below c.self.inside.parts.state 0) (omega (arith, c.requires, ap (λ (d : Domain). length d.state.slots) c.self.view_is)),
+    )

@@ -8,6 +8,7 @@ use Rattle.lf_heap.proofs.Calls.OperandSlots.{became, one_less_length, read_done
 use Rattle.lf_heap.proofs.Calls.Rests.{notices_then}
 use Rattle.lf_heap.proofs.Slots.SlotPlaces.{put_length}
 use Rattle.lf_heap.proofs.States.Steps.{steps_follow}
+use Rattle.lf_heap.proofs.Calls.SlotsAfter.{slots_read}
 use Rattle.lf_heap.proofs.heap.Heap.read.Goals as goal
 
 pub drop_slot-requires-clause-there : goal.drop_slot-requires-clause-there
@@ -48,3 +49,6 @@ returns-clause-room g c =
       ap (λ (d : Domain). d.spare) c.self.view_is,
       ap (λ (d : Domain). length d.state.slots) c.self.view_is,
     )
+
+pub returns-clause-slots : goal.returns-clause-slots
+returns-clause-slots g c = slots_read c.args.self.now.state c.settle.new.self.state c.requires (returns-clause-change g c)

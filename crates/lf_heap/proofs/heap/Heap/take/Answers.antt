@@ -9,6 +9,7 @@ use Rattle.lf_heap.proofs.Calls.OperandSlots.{became, one_less_length, take_done
 use Rattle.lf_heap.proofs.Calls.Rests.{notices_then}
 use Rattle.lf_heap.proofs.Slots.SlotPlaces.{put_length}
 use Rattle.lf_heap.proofs.States.Steps.{steps_follow}
+use Rattle.lf_heap.proofs.Calls.SlotsAfter.{slots_taken}
 use Rattle.lf_heap.proofs.heap.Heap.take.Goals as goal
 
 pub drop_slot-requires-clause-there : goal.drop_slot-requires-clause-there
@@ -52,3 +53,6 @@ returns-clause-room g c =
       c.in_ok-v.ensures.room,
       ap length (ap (λ (t : State). t.slots) c.in_ok-v.ensures.state ∙ slots_left c.self.inside.parts.state c.operand-target.result (key_of c.operand-key.result)),
     )
+
+pub returns-clause-slots : goal.returns-clause-slots
+returns-clause-slots g c = slots_taken c.args.self.now.state c.settle.new.self.state c.requires (returns-clause-change g c)

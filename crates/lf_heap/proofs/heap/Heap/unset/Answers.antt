@@ -20,3 +20,13 @@ returns-clause-room g c =
       ap (λ (d : Domain). length d.state.slots) c.self.view_is,
       put_length c.self.inside.parts.state.slots c.args.at None,
     )
+
+pub returns-clause-slots : goal.returns-clause-slots
+returns-clause-slots g c =
+    omega (
+      arith,
+      ap (λ (t : State). length t.slots) c.settle.ensures.state,
+      ap (λ (t : State). length t.slots) c.replace_slot.ensures.state,
+      ap (λ (d : Domain). length d.state.slots) c.self.view_is,
+      put_length c.self.inside.parts.state.slots c.args.at None,
+    )
