@@ -95,6 +95,7 @@ fn write_field<S: Store, L: Ledger>(
 }
 
 // What this runtime finds.
+#[derive(Drop)]
 struct Found {
     borrows: Answer,
     references: Answer,
