@@ -15,6 +15,9 @@ use std::sync::Arc;
 
 /// A finite map from names to frozen rows. Contracts see the list of its rows by rising
 /// name.
+///
+/// A name is searched for by halves in one table after the other, the longest first, which has
+/// more than three quarters of the rows.
 #[derive(Drop)]
 pub struct FrozenMap {
     // The larger ones first.
@@ -71,8 +74,8 @@ impl FrozenMap {
     }
 
     /// An equal map, which shares all rows, or `OutOfMemory`, which no clause ties to a
-    /// cause. It takes two pointers for each table, of which there are no more than the
-    /// logarithm of the number of rows.
+    /// cause. It copies two pointers for each table, and each table is more than four times as
+    /// long as the next one.
     pub fn share(&self) -> Result<FrozenMap, OutOfMemory>
         ensures shared { IfOk result (λ shared. shared ≡ self.now) }
         ensures rising { RiseByName self.now }
@@ -82,8 +85,11 @@ impl FrozenMap {
         })
     }
 
-    /// The map with further rows, in any order, whose names are new and differ. On want of memory the
-    /// rows are handed back as they were given.
+    /// The map with further rows, in any order, whose names are new and differ. On want of
+    /// memory, which no clause ties to a cause, the rows are handed back as they were given.
+    ///
+    /// Tables are joined as they grow, so that so many rows cost, averaged over the calls that
+    /// led to a map, as many steps as the logarithm of its length for each.
     pub fn with(&self, rows: FrozenRows) -> Result<FrozenMap, (FrozenRows, OutOfMemory)>
         requires apart { NamesApart rows }
         requires new { (row : FrozenRow) → Member row rows → has_frozen self.now row.id ≡ false }
@@ -109,12 +115,8 @@ fn lesser<'a>(first: Option<&'a FrozenRow>, second: Option<&'a FrozenRow>) -> Op
     ensures { option_copied result ≡ lesser_row (option_copied first.entry) (option_copied second.entry) }
 {
     match (first, second) {
-        (Some(row), Some(other)) => Some(if row.id.is_below(other.id) {
-            row
-        } else {
-            other
-        }),
-        (Some(row), None) => Some(row),
+        (Some(row), Some(other)) if !row.id.is_below(other.id) => Some(other),
+        (Some(row), _) => Some(row),
         (None, other) => other,
     }
 }
