@@ -2,3 +2,4 @@ pub mod TwoRegions
 pub mod SettledRows
 pub mod BarrierStates
 pub mod LocalChains
+pub mod FrozenBatches

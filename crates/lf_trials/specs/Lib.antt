@@ -1,3 +1,4 @@
 pub mod TwoRegions
 pub mod SettledRows
 pub mod LocalChains
+pub mod FrozenBatches

@@ -1,8 +1,8 @@
 //! What every store of rows has to pass, and the tests of the stores, of the table of
 //! regions, of the counts that both keep of edges, of settling, of the write barrier, and of
-//! heaps.
+//! maps of frozen rows and of heaps.
 //!
-//! It stands on `lf_heap`, `lf_barrier`, `lf_settle`, `lf_domain`, `lf_graph`, `lf_regions`, `lf_laws` and `lf_base`. `trials` has calls of any store
+//! It stands on `lf_heap`, `lf_barrier`, `lf_settle`, `lf_domain`, `lf_graph`, `lf_regions`, `lf_frozen`, `lf_laws` and `lf_base`. `trials` has calls of any store
 //! that ask for nothing, and `cases` drives them by a table: `failed_case` names the first
 //! case that a store fails. A new store is added to `store_tests`, with one test.
 #![tactic(auto)]
@@ -16,6 +16,9 @@ mod contents;
 pub mod counted_edges;
 #[cfg(test)]
 mod domain_tests;
+pub mod frozen_maps;
+#[cfg(test)]
+mod frozen_tests;
 pub mod heap_calls;
 pub mod heap_rows;
 #[cfg(test)]

@@ -1,0 +1,8 @@
+pub mod NameCompare
+pub mod Members
+pub mod RisenRows
+pub mod NextRows
+pub mod Searches
+pub mod TableLists
+pub mod Drafts
+pub mod RowLaws

@@ -1,0 +1,3 @@
+pub mod FrozenRows
+pub mod Entries
+pub mod Drafts
