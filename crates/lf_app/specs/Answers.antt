@@ -11,13 +11,14 @@ use Rattle.lf_app.specs.declared.statuses.Status.TheVariants.{OutOfMemory, Scrip
 use Rattle.lf_app.specs.declared.reports.Report.{Report}
 use Rattle.lf_app.specs.declared.commands.Command.{Command}
 use Rattle.lf_app.specs.Words.{command_of}
-use Rattle.lf_app.specs.Verdicts.{Verdict, Runs, Checked, Refuses, IsVerdict}
+use Rattle.lf_app.specs.Verdicts.{Verdict, Runs, Checked, Lists, Refuses, IsVerdict}
 use Rattle.lf_app.specs.Output.{output_of, journal_of}
 
 -- the status of a script's verdict
 abbrev pub due_of : Verdict → Status
 due_of (Runs numbers) = Done
 due_of Checked = Done
+due_of (Lists code) = Done
 due_of (Refuses refusal) = ScriptRefused
 
 -- the status that is due under a command, where the script is too long or isn't

@@ -3,7 +3,8 @@ use Rattle.std.specs.Prelude.{ℕ, List, [], ◌∷◌, ◌++◌, codes, flat_ma
 use Rattle.std.specs.Fmt.{decimal}
 use Rattle.lf_base.specs.declared.refusals.Refusal.{Refusal}
 use Rattle.lf_base.specs.RefusalKinds.{kind_name}
-use Rattle.lf_app.specs.Verdicts.{Verdict, Runs, Checked, Refuses}
+use Rattle.lf_code.specs.Listing.{listing}
+use Rattle.lf_app.specs.Verdicts.{Verdict, Runs, Checked, Lists, Refuses}
 
 -- a line with its line feed
 abbrev pub with_feed : List ℕ → List ℕ
@@ -27,10 +28,12 @@ run_text numbers = with_feed (codes "[0]") ++ printed_lines numbers ++ with_feed
 abbrev pub output_of : Verdict → List ℕ
 output_of (Runs numbers) = run_text numbers
 output_of Checked = with_feed (codes "script ok")
+output_of (Lists code) = listing code
 output_of (Refuses refusal) = refusal_line refusal
 
 -- the journal of a script: the numbers of the behaviours of its run, in the order in which they were committed
 abbrev pub journal_of : Verdict → List ℕ
 journal_of (Runs numbers) = 0 ∷ []
 journal_of Checked = []
+journal_of (Lists code) = []
 journal_of (Refuses refusal) = []

@@ -10,6 +10,8 @@ pub enum Command {
     Run,
     /// Reads it, and writes `script ok` or its refusal.
     Check,
+    /// Reads it, and writes the listing of its code or its refusal.
+    Code,
 }
 
 impl Command {
@@ -21,6 +23,8 @@ impl Command {
             Some(Command::Run)
         } else if word.is("check") {
             Some(Command::Check)
+        } else if word.is("code") {
+            Some(Command::Code)
         } else {
             None
         }

@@ -1,8 +1,8 @@
 //! The whole program but its `main`: from the words of the command line and a
 //! source to a status and what a sink gets.
 //!
-//! It stands on `lf_base`, `lf_codegen`, `lf_outside` and `lf_parser`. Its promise is
-//! the clause of [`tool`] and [`top`]: what each status says, which is that the sink
+//! It stands on `lf_base`, `lf_code`, `lf_codegen`, `lf_emit`, `lf_outside` and `lf_parser`.
+//! Its promise is the clause of [`tool`] and [`top`]: what each status says, which is that the sink
 //! got the text that is due for the script that the source gave, and the report its
 //! journal. `laws` promises that each script has one such text and journal.
 #![tactic(auto)]

@@ -1,18 +1,28 @@
 ghost use Rattle.std.specs.Prelude.{◌≡◌, ℕ, List, IfOk, string_bytes};
-ghost use Rattle.lf_app.specs.Verdicts.{Runs, Checked, Refuses};
+ghost use Rattle.lf_app.specs.Verdicts.{Runs, Checked, Lists, Refuses};
 ghost use Rattle.lf_app.specs.Output.{refusal_line as line_of_refusal};
 ghost use Rattle.lf_app.specs.Outcomes.{IsOutcomeOf};
 ghost use Rattle.lf_app.specs.WalkFollows.{text_so_far};
 
 use crate::statuses::Status;
 use lf_base::{Order, OutOfMemory, Place, Refusal};
+use lf_code::Code;
 use std::alloc::Global;
+
+/// What is to be written of a script.
+#[derive(Drop)]
+pub enum Output {
+    /// A text.
+    Text(String),
+    /// The listing of code.
+    Listing(Code),
+}
 
 /// What comes of a script, before anything of it is written.
 #[derive(Drop)]
 pub struct Outcome {
     pub status: Status,
-    pub text: String,
+    pub output: Output,
     pub order: Order,
 }
 
@@ -36,7 +46,7 @@ pub fn run_outcome(alloc: Global, mut text: String) -> Result<Outcome, OutOfMemo
     }
     Ok(Outcome {
         status: Status::Done,
-        text,
+        output: Output::Text(text),
         order,
     })
 }
@@ -47,9 +57,20 @@ pub fn checked_outcome(alloc: Global) -> Result<Outcome, OutOfMemory>
 {
     Ok(Outcome {
         status: Status::Done,
-        text: String::from_str(alloc, "script ok\n")?,
+        output: Output::Text(String::from_str(alloc, "script ok\n")?),
         order: Order::new(alloc),
     })
+}
+
+/// The outcome of a script whose code is listed.
+pub fn listed_outcome(alloc: Global, code: Code) -> Outcome
+    ensures { IsOutcomeOf (Lists code) result }
+{
+    Outcome {
+        status: Status::Done,
+        output: Output::Listing(code),
+        order: Order::new(alloc),
+    }
 }
 
 /// The outcome of a script that is refused.
@@ -58,7 +79,7 @@ pub fn refused_outcome(alloc: Global, refusal: Refusal) -> Result<Outcome, OutOf
 {
     Ok(Outcome {
         status: Status::ScriptRefused,
-        text: refusal_line(alloc, refusal)?,
+        output: Output::Text(refusal_line(alloc, refusal)?),
         order: Order::new(alloc),
     })
 }

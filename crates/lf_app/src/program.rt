@@ -1,16 +1,18 @@
 ghost use Rattle.std.specs.Prelude.{◌≡◌, ◌<◌, ◌-◌, ◌^◌, []};
 ghost use Rattle.lf_outside.specs.Streams.{stream_of};
+ghost use Rattle.lf_outside.specs.Transfer.{Writes};
 ghost use Rattle.lf_app.specs.Answers.{Answers, IsComplete, call_of};
-ghost use Rattle.lf_app.specs.Outcomes.{WritesOutcome};
+ghost use Rattle.lf_app.specs.Outcomes.{WritesOutcome, output_bytes};
 
 use crate::commands::Command;
-use crate::outcomes::Outcome;
+use crate::outcomes::{Outcome, Output};
 use crate::reports::Report;
 use crate::script::judge;
 use crate::statuses::Status;
 use crate::word_list::Word;
 use lf_base::{MOST_SCRIPT_BYTES, Order};
-use lf_outside::{Gate, ReadStop, Sink, Source, read_all, write_all};
+use lf_code::write_listing;
+use lf_outside::{Failed, Gate, ReadStop, Sink, Source, read_all, write_all};
 use std::alloc::Global;
 
 /// The store that the program keeps its rows in. No row is kept yet.
@@ -27,11 +29,20 @@ fn ended(alloc: Global, status: Status) -> Report
     }
 }
 
-// Writes the text of an outcome.
+fn write_output<K: Sink>(out: &mut K, output: &Output) -> Result<(), Failed>
+    ensures { Writes (output_bytes output.now) (stream_of K.held K.faults out.old) (stream_of K.held K.faults out.new) result }
+{
+    match output {
+        Output::Text(text) => write_all(out, text.as_bytes()),
+        Output::Listing(code) => write_listing(code, out),
+    }
+}
+
+// Writes what is due of an outcome.
 fn write_outcome<K: Sink>(out: &mut K, outcome: Outcome) -> Report
     ensures { WritesOutcome (stream_of K.held K.faults out.old) (stream_of K.held K.faults out.new) outcome result }
 {
-    let status = match write_all(out, outcome.text.as_bytes()) {
+    let status = match write_output(out, &outcome.output) {
         Ok(()) => outcome.status,
         Err(_) => Status::WriteFault,
     };
@@ -42,7 +53,7 @@ fn write_outcome<K: Sink>(out: &mut K, outcome: Outcome) -> Report
 }
 
 /// All that the program does, for all words but those of a free schedule: it reads a script from
-/// the source, runs or checks it, and writes what comes of it to the sink.
+/// the source, runs, checks or lists it, and writes what comes of it to the sink.
 ///
 /// `Answers` says what each status means of the source, the sink and the journal; `IsComplete`
 /// that the status is the due one, or want of memory, where neither of them failed. No clause

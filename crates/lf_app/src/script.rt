@@ -1,18 +1,22 @@
-//! What comes of a script: its text, that it is right, or its refusal.
+//! What comes of a script: its text, that it is right, its code, or its refusal.
 
 ghost use Rattle.std.specs.Prelude.{◌≡◌, ◌≤◌, Option, ℕ, IfOk, length, map};
 ghost use Rattle.lf_app.specs.FirstForm as spec;
-ghost use Rattle.lf_app.specs.Verdicts.{run_verdict, tree_verdict, not_built as refusal_at};
+ghost use Rattle.lf_app.specs.declared.commands.Command.TheVariants.{Code};
+ghost use Rattle.lf_app.specs.Verdicts.{run_verdict, script_verdict, not_built as refusal_at};
 ghost use Rattle.lf_app.specs.Outcomes.{IsOutcome, IsOutcomeOf};
 ghost use Rattle.lf_app.specs.WalkFollows.{StandsAt, EndsAt};
+ghost use Rattle.lf_codegen.specs.TextsNamed.{IsFitForCode};
+ghost use Rattle.lf_emit.specs.Scopes.{plain_script};
 ghost use Rattle.lf_parser.specs.Plain.{plain_block, plain_function, plain_tree};
 
 use crate::commands::Command;
 use crate::forms::stmt_line;
-use crate::outcomes::{Outcome, checked_outcome, refused_outcome, run_outcome};
+use crate::outcomes::{Outcome, checked_outcome, listed_outcome, refused_outcome, run_outcome};
 use crate::walk::Walk;
 use lf_base::{MOST_SCRIPT_BYTES, OutOfMemory, Place, ReadFail, Refusal, RefusalKind};
-use lf_codegen::read;
+use lf_codegen::{Script, code_laws, read};
+use lf_emit::generate;
 use lf_parser::{Function, Stmt, Tree};
 use std::alloc::Global;
 
@@ -73,13 +77,25 @@ fn run_tree(alloc: Global, tree: &Tree) -> Result<Outcome, OutOfMemory>
     }
 }
 
-// What comes of a script's tree under a command.
-fn tree_outcome(alloc: Global, command: Command, tree: &Tree) -> Result<Outcome, OutOfMemory>
-    ensures { IfOk result (IsOutcomeOf (tree_verdict command (plain_tree tree.now))) }
+// The outcome of listing a script's code.
+fn list_code(alloc: Global, script: Script) -> Result<Outcome, OutOfMemory>
+    requires { IsFitForCode (plain_script script.texts script.resolved) }
+    ensures { IfOk result (IsOutcomeOf (script_verdict Code (plain_script script.texts script.resolved))) }
+{
+    let Script { resolved, texts } = script;
+    let code = generate(alloc, &resolved, texts)?;
+    Ok(listed_outcome(alloc, code))
+}
+
+// What comes of a script under a command.
+fn script_outcome(alloc: Global, command: Command, script: Script) -> Result<Outcome, OutOfMemory>
+    requires { IsFitForCode (plain_script script.texts script.resolved) }
+    ensures { IfOk result (IsOutcomeOf (script_verdict command (plain_script script.texts script.resolved))) }
 {
     match command {
-        Command::Run => run_tree(alloc, tree),
+        Command::Run => run_tree(alloc, script.resolved.tree()),
         Command::Check => checked_outcome(alloc),
+        Command::Code => list_code(alloc, script),
     }
 }
 
@@ -93,5 +109,6 @@ pub fn judge(alloc: Global, command: Command, bytes: &[u8]) -> Result<Outcome, O
         Err(ReadFail::Refused(refusal)) => return refused_outcome(alloc, refusal),
         Err(ReadFail::OutOfMemory) => return Err(OutOfMemory),
     };
-    tree_outcome(alloc, command, script.resolved.tree())
+    code_laws::read_scripts_are_fit();
+    script_outcome(alloc, command, script)
 }

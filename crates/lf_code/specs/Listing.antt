@@ -134,7 +134,8 @@ body_word texts name.When = codes "when"
 -- a body's line: its number, its name, and how many parameters and variables it has
 abbrev pub body_line : List Text → ℕ → Body → List ℕ
 body_line texts number b =
-    joined (codes "body " ∷ decimal number ∷ codes " " ∷ body_word texts b.name ∷ codes " " ∷ decimal b.params ∷ codes " " ∷ decimal b.vars ∷ codes "\n" ∷ [])
+    joined (codes "body " ∷ decimal number ∷ codes " " ∷ body_word texts b.name ∷ codes " " ∷ decimal b.params ∷ codes " " ∷ decimal b.vars
+    ∷ codes "\n" ∷ [])
 
 -- a body with all its instructions
 abbrev pub body_listing : List Text → ℕ → Body → List ℕ

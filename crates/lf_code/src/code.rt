@@ -51,6 +51,15 @@ fn is_valid(alloc: Global, bodies: &[Body], texts: usize) -> Result<bool, OutOfM
 }
 
 impl Code {
+    /// The code that these bodies and texts are, which are known to be valid. `Code::check`
+    /// is for those of which that isn't known.
+    pub fn new(bodies: Bodies, texts: Texts) -> Code
+        requires { ValidCode (checked_code bodies texts) }
+        ensures { result ≡ checked_code bodies texts }
+    {
+        Code { bodies, texts }
+    }
+
     /// Valid code, of these bodies and texts. `Invalid` comes exactly where the code isn't
     /// valid, but that want of memory may come in the place of either answer.
     pub fn check(alloc: Global, bodies: Bodies, texts: Texts) -> Result<Code, CodeFail>

@@ -1,7 +1,8 @@
 //! How many operands there are at each address that is reached: a walk from address 0 along
 //! all ways, each address once.
 
-ghost use Rattle.std.specs.Prelude.{ℕ as Number, ◌≡◌, ◌+◌, ◌-◌, ◌++◌, ◌<◌, ◌≤◌, ◌∷◌, ◌^◌, [], List, IfOk, IsTrue, MatchOption, ◌↔◌, length, slice_get, Some};
+ghost use Rattle.std.specs.Prelude.{ℕ as Number, ◌≡◌, ◌+◌, ◌-◌, ◌++◌, ◌<◌, ◌≤◌, ◌∷◌, ◌^◌, [], List, IfOk, IsTrue};
+ghost use Rattle.std.specs.Prelude.{MatchOption, ◌↔◌, length, slice_get, Some};
 ghost use Rattle.std.specs.List.{AllByRecursion};
 ghost use Rattle.lf_code.specs.declared.body.Placed.{Placed as At};
 ghost use Rattle.lf_code.specs.Operations as spec;
@@ -69,7 +70,8 @@ fn leaves(instr: &Instr) -> usize
 impl OperandCounts {
     // So many addresses, to none of which a way was seen to lead.
     fn new(alloc: Global, addresses: usize) -> Result<OperandCounts, OutOfMemory>
-        ensures { IfOk result (λ walk. (list : List At) → length list ≡ addresses → OperandWalk list walk.counts.items walk.left.items (way 0 0 ∷ [])) }
+        ensures { IfOk result (λ walk. (list : List At) → length list ≡ addresses
+            → OperandWalk list walk.counts.items walk.left.items (way 0 0 ∷ [])) }
     {
         Ok(OperandCounts {
             counts: vec![in alloc; None; addresses]?,

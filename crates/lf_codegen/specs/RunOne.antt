@@ -5,6 +5,7 @@ use Rattle.lf_base.specs.declared.ids.CownId.{CownId}
 use Rattle.lf_base.specs.declared.limits.TheConstants.{MOST_FRAMES}
 use Rattle.lf_base.specs.Contents.{Parked}
 use Rattle.lf_base.specs.PlainState.{Row}
+use Rattle.lf_code.specs.CodeStep.{Program}
 use Rattle.lf_code.specs.Progress.{Progress, Fails, Flow, Next, Return}
 use Rattle.lf_code.specs.RunCode.{RunResult, first_progress, result_of, run_code}
 use Rattle.lf_codegen.specs.GeneratedCode.{program_of}
@@ -26,7 +27,11 @@ abbrev pub run_one : PlainScript → ℕ → Job → List (CownId × Parked) →
 run_one s ticks job contents given =
     flow_result (body_meaning s job.body (first_progress job contents given (length (body_vars s job.body)) ticks))
 
+-- code does what a script's tree means, whatever the ticks, the job, the contents of its cowns and the frozen rows
+abbrev pub MeansTree : Program → PlainScript → Type 0
+MeansTree code s = (ticks : ℕ) (job : Job) (contents : List (CownId × Parked)) (given : List Row)
+    → run_code code ticks job contents given ≡ run_one s ticks job contents given
+
 -- the code of each script does what its tree means
 abbrev pub CodeMeansTree : Type 0
-CodeMeansTree = (s : PlainScript) (ticks : ℕ) (job : Job) (contents : List (CownId × Parked)) (given : List Row)
-    → run_code (program_of s) ticks job contents given ≡ run_one s ticks job contents given
+CodeMeansTree = (s : PlainScript) → MeansTree (program_of s) s

@@ -4,4 +4,4 @@ pub mod Pieces
 pub mod StatementForms
 pub mod PlaceTables
 pub mod Asking
-pub mod Operands
+pub mod WholeCode

@@ -3,13 +3,14 @@
 ghost use Rattle.std.specs.Prelude.{◌≡◌, ◌++◌, ◌∷◌, [], length, map, IfOk, OnOk};
 ghost use Rattle.lf_parser.specs.Plain.{plain_block, plain_function, plain_tree};
 ghost use Rattle.lf_code.specs.declared.body.BodyName.TheVariants as body_name;
-ghost use Rattle.std.specs.List.{AllByRecursion};
-ghost use Rattle.lf_code.specs.Operations.{HasOperands};
 ghost use Rattle.lf_code.specs.Ticked.{Ticked};
+ghost use Rattle.lf_code.specs.ValidCode.{ValidCode};
 ghost use Rattle.lf_codegen.specs.Frames.{frame_line};
 ghost use Rattle.lf_codegen.specs.GeneratedCode.{body_code, generated_body, program_of};
 ghost use Rattle.lf_codegen.specs.Numbers.{function_named, when_named};
+ghost use Rattle.lf_codegen.specs.RunOne.{MeansTree};
 ghost use Rattle.lf_codegen.specs.TablesMean.{plain_frames};
+ghost use Rattle.lf_codegen.specs.TextsNamed.{IsFitForCode};
 ghost use Rattle.lf_emit.specs.PlaceTables.{HasPlaces};
 ghost use Rattle.lf_emit.specs.Scopes.{frame_with, function_keys, name_keys, plain_script, when_keys};
 
@@ -19,7 +20,7 @@ use crate::placing::{Out, put};
 use crate::scope::Scope;
 use crate::statements::emit_stmts;
 use lf_base::{OutOfMemory, Texts};
-use lf_code::{Bodies, Body, BodyName, Instr, Instrs};
+use lf_code::{Bodies, Body, BodyName, Code, Instr, Instrs};
 use lf_codegen::{Frame, Resolved, body_names, code_laws, distinct, when_frames_of};
 use lf_parser::{Block, Function, Name, Tree};
 use std::alloc::Global;
@@ -207,16 +208,21 @@ fn bodies_of(alloc: Global, tree: &Tree, texts: &Texts) -> Result<Bodies, OutOfM
     Ok(bodies)
 }
 
-/// The code of a script, which was resolved with these texts: the body of main, of each
-/// function, and of each `when`. It takes a tick wherever it goes back, and each address that
-/// is reached has one number of operands, and enough. `OutOfMemory` comes also where a number
-/// of the code has no 32 bits.
-pub fn generate(alloc: Global, resolved: &Resolved, texts: &Texts) -> Result<Bodies, OutOfMemory>
-    ensures code { IfOk result (λ bodies. bodies ≡ (program_of (plain_script texts.now resolved.now)).bodies) }
-    ensures ticked { IfOk result (λ bodies. Ticked (record { bodies = bodies; texts = texts.now })) }
-    ensures operands { IfOk result (λ bodies. AllByRecursion (λ b. HasOperands b.list) bodies) }
+/// The code of a script, whose tree was resolved with these texts: the body of main, of each
+/// function, and of each `when`. It is valid, takes a tick wherever it goes back, and does what
+/// the tree means. The script has to be fit for code, which each one that `read` answers is
+/// (`lf_codegen::code_laws`). `OutOfMemory` comes also where a number of the code has no 32
+/// bits; the texts are let go then.
+pub fn generate(alloc: Global, resolved: &Resolved, texts: Texts) -> Result<Code, OutOfMemory>
+    requires { IsFitForCode (plain_script texts resolved.now) }
+    ensures code { IfOk result (λ code. code ≡ program_of (plain_script texts resolved.now)) }
+    ensures valid { IfOk result ValidCode }
+    ensures ticked { IfOk result Ticked }
+    ensures means { IfOk result (λ code. MeansTree code (plain_script texts resolved.now)) }
 {
+    code_laws::code_is_valid();
     code_laws::code_is_ticked();
-    code_laws::code_has_operands();
-    bodies_of(alloc, resolved.tree(), texts)
+    code_laws::code_means_tree();
+    let bodies = bodies_of(alloc, resolved.tree(), &texts)?;
+    Ok(Code::new(bodies, texts))
 }

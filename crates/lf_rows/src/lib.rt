@@ -2,10 +2,11 @@
 //! over a source and a sink in memory, with the text, the status and the journal
 //! that it must give. A row is added to a table; the loops stay as they are.
 //!
-//! `tree_rows` and `name_rows` read scripts without running them, and `lexer_tests`,
-//! `outside_tests` and `text_tests` call what stands below the program.
+//! `tree_rows` and `name_rows` read scripts without running them, `code_rows` generates the code
+//! of some, and `lexer_tests`, `outside_tests` and `text_tests` call what stands below the program.
 //!
-//! It stands on `lf_app`, `lf_codegen`, `lf_parser`, `lf_lexer`, `lf_base` and `lf_outside`, and promises nothing.
+//! It stands on `lf_app`, `lf_emit`, `lf_codegen`, `lf_code`, `lf_parser`, `lf_lexer`, `lf_base` and
+//! `lf_outside`, and promises nothing.
 #![tactic(auto)]
 
 #[cfg(test)]
@@ -20,6 +21,8 @@ mod deepest_script;
 mod first_form_rows;
 #[cfg(test)]
 mod lexer_tests;
+#[cfg(test)]
+mod listing_rows;
 #[cfg(test)]
 mod long_scripts;
 #[cfg(test)]

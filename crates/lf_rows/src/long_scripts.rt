@@ -1,3 +1,6 @@
+use lf_base::OutOfMemory;
+use std::alloc::Global;
+
 /// A part of a script, so many times.
 #[derive(Clone, Copy)]
 pub struct Repeated {
@@ -148,6 +151,17 @@ static LONG_SCRIPTS: [LongScript; 8] = [
         text: "refused TooManyParts at line 67 column 1\n",
     },
 ];
+
+/// The script that these parts make.
+pub fn script_of(alloc: Global, parts: &[Repeated]) -> Result<String, OutOfMemory> {
+    let mut script = String::new(alloc);
+    for repeated in parts {
+        for _turn in 0..repeated.times {
+            script.push_str(repeated.part)?;
+        }
+    }
+    Ok(script)
+}
 
 /// The scripts at the limits of the language, and past them.
 pub fn long_scripts() -> &'static [LongScript] {

@@ -54,6 +54,13 @@ pub const CHECKED: Row = Row {
     ..RAN
 };
 
+/// A script that is right, and its code listed.
+pub const LISTED: Row = Row {
+    words: &["code"],
+    order: &[],
+    ..RAN
+};
+
 /// Words that name no command.
 pub const MISWORDED: Row = Row {
     script: "x = {}\n",

@@ -1,7 +1,8 @@
 use crate::check_rows::check_rows;
 use crate::deepest_script::deepest_script;
 use crate::first_form_rows::first_form_rows;
-use crate::long_scripts::{LongScript, Repeated, long_scripts};
+use crate::listing_rows::listing_rows;
+use crate::long_scripts::{LongScript, long_scripts, script_of};
 use crate::not_built_rows::not_built_rows;
 use crate::refusal_rows::refusal_rows;
 use crate::row::{Row, WHOLE};
@@ -86,6 +87,12 @@ fn scripts_are_checked(rt: HostRuntime) -> Result<(), Fail> {
 }
 
 #[test]
+fn scripts_are_listed(rt: HostRuntime) -> Result<(), Fail> {
+    check_rows_of(&rt, rt.alloc(), listing_rows())?;
+    Ok(())
+}
+
+#[test]
 fn words_are_refused(rt: HostRuntime) -> Result<(), Fail> {
     check_rows_of(&rt, rt.alloc(), word_rows())?;
     Ok(())
@@ -95,17 +102,6 @@ fn words_are_refused(rt: HostRuntime) -> Result<(), Fail> {
 fn sources_and_sinks_are_slow_or_fail(rt: HostRuntime) -> Result<(), Fail> {
     check_rows_of(&rt, rt.alloc(), stream_rows())?;
     Ok(())
-}
-
-// The script that these parts make.
-fn script_of(alloc: Global, parts: &[Repeated]) -> Result<String, OutOfMemory> {
-    let mut script = String::new(alloc);
-    for repeated in parts {
-        for _turn in 0..repeated.times {
-            script.push_str(repeated.part)?;
-        }
-    }
-    Ok(script)
 }
 
 // What `check` writes of a script.

@@ -38,8 +38,8 @@ static ROWS: [Row; 13] = [
         ..MISWORDED
     },
     Row {
-        name: "bad_words: code",
-        words: &["code"],
+        name: "bad_words: code with a second word",
+        words: &["code", "check"],
         ..MISWORDED
     },
     Row {

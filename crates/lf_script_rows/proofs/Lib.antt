@@ -1,3 +1,4 @@
+pub mod LongRuns
 pub mod ObjectRowsComputed
 pub mod FaultRowsComputed
 pub mod ControlRowsComputed

@@ -1,8 +1,10 @@
 -- The rows, computed.
-use Rattle.std.proofs.Common.{refl}
+use Rattle.std.proofs.Common.{[], ap, length, refl}
 use Rattle.std.specs.Fmt.{digits}
 use Rattle.lf_script_rows.specs.WhenRows.{FrozenCaptureRuns, OneCownTwiceRuns, NamedAgainRuns, FaultKeepsWritesRuns, MovedContentRuns}
-use Rattle.lf_script_rows.specs.WhenRows.{BodyReturnsRuns, AccountsRuns, EndlessWhensRuns}
+use Rattle.lf_codegen.proofs.Following.Whole.{code_means_tree}
+use Rattle.lf_script_rows.specs.RowForms.{main_job}
+use Rattle.lf_script_rows.specs.WhenRows.{BodyReturnsRuns, AccountsRuns, EndlessWhensRuns, endless_whens_script}
 
 pub frozen_capture_shows : FrozenCaptureRuns
 unfolding digits
@@ -38,4 +40,8 @@ accounts_shows = (((refl, refl), (refl, refl)), ((refl, refl, refl), (refl, refl
 
 pub endless_whens_shows : EndlessWhensRuns
 unfolding digits
-endless_whens_shows = (((refl, refl), (refl, refl)), refl)
+endless_whens_shows = (
+  ((refl, refl), (refl, refl)),
+  refl,
+  ap (λ r. length r.spawns) (code_means_tree endless_whens_script 1000000 main_job [] []),
+)

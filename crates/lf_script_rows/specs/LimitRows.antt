@@ -1,6 +1,6 @@
 -- Limits at their boundaries, and the code of a script.
-use Rattle.std.specs.Prelude.{List, Some, [], length, pos, replicate, ℕ, ◌+◌, ◌≡◌, ◌∷◌}
-use Rattle.lf_base.specs.declared.faults.Fault.TheVariants.{NotCown, OutputFull, TooManySpawns}
+use Rattle.std.specs.Prelude.{List, Some, [], codes, length, pos, replicate, ℕ, ◌+◌, ◌≡◌, ◌∷◌}
+use Rattle.lf_base.specs.declared.faults.Fault.TheVariants.{NotCown, OutputFull, TooManyObjects, TooManySpawns}
 use Rattle.lf_base.specs.declared.limits.TheConstants.{MOST_PRINTED_BYTES}
 use Rattle.lf_base.specs.declared.values.Op.TheVariants.{Add}
 use Rattle.lf_base.specs.declared.values.Value.{Value}
@@ -13,9 +13,12 @@ use Rattle.lf_code.specs.CodeStep.{code_at, on_line}
 use Rattle.lf_code.specs.Progress.{Progress, Did, Does, Faulted}
 use Rattle.lf_code.specs.Prints.{bytes_of, with_line}
 use Rattle.lf_code.specs.Spawning.{spawns_one}
+use Rattle.lf_parser.specs.Plain.{block_of}
+use Rattle.lf_parser.specs.Plain as plain
 use Rattle.lf_codegen.specs.GeneratedCode.{program_of}
+use Rattle.lf_codegen.specs.Numbers.{PlainScript}
 use Rattle.lf_script_rows.specs.ObjectRows.{first_sum_script}
-use Rattle.lf_script_rows.specs.RowForms.{text_no}
+use Rattle.lf_script_rows.specs.RowForms.{Shows, call_expr, fault_at, name_no, script_of, text_expr, text_no}
 use Rattle.lf_script_rows.specs.WhenRows.{cown_no, spawn_for}
 
 -- an action is done
@@ -39,6 +42,34 @@ SpawnLimitRuns =
     IsDone (spawns_one 1 (0 ∷ []) [] (spawned (value.Cown (cown_no 1)) 999))
     × (spawns_one 1 (0 ∷ []) [] (spawned (value.Cown (cown_no 1)) 1000) ≡ Faulted TooManySpawns)
     × (spawns_one 1 (0 ∷ []) [] (spawned (value.Int (pos 1)) 1000) ≡ Faulted NotCown)
+
+-- while True:;     x = {}
+abbrev pub endless_objects_script : PlainScript
+endless_objects_script = script_of (codes "x" ∷ []) []
+    (
+    plain.While 1 plain.Yes
+    (block_of (
+    plain.Assign 2 (name_no 17) plain.Object
+    ∷ []))
+    ∷ [])
+
+-- a million objects are made
+abbrev pub EndlessObjectsRuns : Type 0
+EndlessObjectsRuns = Shows endless_objects_script 3000000 [] (fault_at TooManyObjects 2)
+
+-- while True:;     print("abcdefgh")
+abbrev pub endless_lines_script : PlainScript
+endless_lines_script = script_of (codes "abcdefgh" ∷ []) []
+    (
+    plain.While 1 plain.Yes
+    (block_of (
+    plain.Eval 2 (call_expr 5 (text_expr 17 ∷ []))
+    ∷ []))
+    ∷ [])
+
+-- as many lines are printed as there is room for
+abbrev pub EndlessLinesRuns : Type 0
+EndlessLinesRuns = Shows endless_lines_script 1000000 (replicate 116508 (codes "abcdefgh")) (fault_at OutputFull 2)
 
 -- the code of the first script
 abbrev pub first_sum_code : List Placed

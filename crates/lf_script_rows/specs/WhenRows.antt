@@ -256,3 +256,4 @@ abbrev pub EndlessWhensRuns : Type 0
 EndlessWhensRuns =
     Shows endless_whens_script 1000000 [] (fault_at TooManySpawns 2)
     × (length (run_one endless_whens_script 1000000 main_job [] []).spawns ≡ 1000)
+    × (length (run_code (program_of endless_whens_script) 1000000 main_job [] []).spawns ≡ 1000)

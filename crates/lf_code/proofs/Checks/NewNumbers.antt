@@ -1,5 +1,6 @@
 -- Numbers that are new, one after another, differ from each other and from those that were known.
-use Rattle.std.proofs.Common.{Bool, List, [], ap, ap₂, arith, drop, false, get_or, length, nat_eq, not, refl, subst, suc, sym, take, true, ℕ, ◌&&◌, ◌++◌, ◌+◌, ◌<◌, ◌||◌, ◌∙◌, ◌∷◌, ◌≡◌, ◌≤◌}
+use Rattle.std.proofs.Common.{Bool, List, [], ap, ap₂, arith, drop, false, get_or, length, nat_eq, not, refl, subst, suc, sym, take, true}
+use Rattle.std.proofs.Common.{ℕ, ◌&&◌, ◌++◌, ◌+◌, ◌<◌, ◌||◌, ◌∙◌, ◌∷◌, ◌≡◌, ◌≤◌}
 use Rattle.std.proofs.lemmas.List.Folds.{list_any-append}
 use Rattle.std.proofs.lemmas.List.{append_assoc, drop_all, take_more}
 use Rattle.std.proofs.Math.Seq.{drop-cons}
@@ -49,13 +50,15 @@ turned false true = refl
 turned false false = refl
 
 -- names whose first list has none twice
-pub both_lists : (cowns captures : List ℕ) → all_new [] captures ≡ true → all_new captures cowns ≡ (all_differ cowns && (all_differ captures && are_apart cowns captures))
+pub both_lists : (cowns captures : List ℕ) → all_new [] captures ≡ true
+    → all_new captures cowns ≡ (all_differ cowns && (all_differ captures && are_apart cowns captures))
 both_lists cowns captures e =
     new_is captures cowns ∙ turned (are_apart cowns captures) (all_differ cowns)
     ∙ ap (λ b. all_differ cowns && (b && are_apart cowns captures)) (sym e ∙ first_are_new captures)
 
 -- and one whose first list has one twice
-pub first_list_fails : (cowns captures : List ℕ) → all_new [] captures ≡ false → false ≡ (all_differ cowns && (all_differ captures && are_apart cowns captures))
+pub first_list_fails : (cowns captures : List ℕ) → all_new [] captures ≡ false
+    → false ≡ (all_differ cowns && (all_differ captures && are_apart cowns captures))
 first_list_fails cowns captures e =
     never (all_differ cowns) ∙ ap (λ b. all_differ cowns && (b && are_apart cowns captures)) (sym e ∙ first_are_new captures)
   where
@@ -66,10 +69,12 @@ first_list_fails cowns captures e =
 -- ---- a loop that puts them in
 
 grown : (known vars : List ℕ) (i d : ℕ) → i < length vars → (known ++ take i vars) ++ get_or vars i d ∷ [] ≡ known ++ take (i + 1) vars
-grown known vars i d within = append_assoc known (take i vars) (get_or vars i d ∷ []) ∙ ap (λ l. known ++ l) (sym (take_more vars i d within))
+grown known vars i d within =
+    append_assoc known (take i vars) (get_or vars i d ∷ []) ∙ ap (λ l. known ++ l) (sym (take_more vars i d within))
 
 pub put_in : (set new : VarSet) (known vars : List ℕ) (i d : ℕ) → i < length vars
-    → ((k : List ℕ) → HasVars set k → HasVars new (k ++ get_or vars i d ∷ [])) → HasVars set (known ++ take i vars) → HasVars new (known ++ take (i + 1) vars)
+    → ((k : List ℕ) → HasVars set k → HasVars new (k ++ get_or vars i d ∷ [])) → HasVars set (known ++ take i vars)
+    → HasVars new (known ++ take (i + 1) vars)
 put_in set new known vars i d within put has = subst (HasVars new) (grown known vars i d within) (put (known ++ take i vars) has)
 
 drop_one : (vars : List ℕ) (i d : ℕ) → i < length vars → drop i vars ≡ get_or vars i d ∷ drop (i + 1) vars
@@ -77,12 +82,15 @@ drop_one vars i d within = let e : suc i ≡ i + 1 = omega arith in drop-cons va
 
 pub one_added : (set : VarSet) (known vars : List ℕ) (i d : ℕ) (b : Bool) → i < length vars
     → ((k : List ℕ) → HasVars set k → b ≡ not (is_known (get_or vars i d) k)) → b ≡ true → HasVars set (known ++ take i vars)
-    → all_new (known ++ take i vars) (drop i vars) ≡ all_new known vars → all_new (known ++ take (i + 1) vars) (drop (i + 1) vars) ≡ all_new known vars
+    → all_new (known ++ take i vars) (drop i vars) ≡ all_new known vars
+    → all_new (known ++ take (i + 1) vars) (drop (i + 1) vars) ≡ all_new known vars
 one_added set known vars i d b within is_new new has so_far =
     ap (λ k. all_new k (drop (i + 1) vars)) (sym (grown known vars i d within))
-    ∙ ap (λ t. t && all_new ((known ++ take i vars) ++ get_or vars i d ∷ []) (drop (i + 1) vars)) (sym new ∙ is_new (known ++ take i vars) has)
+    ∙ ap (λ t. t && all_new ((known ++ take i vars) ++ get_or vars i d ∷ []) (drop (i + 1) vars))
+    (sym new ∙ is_new (known ++ take i vars) has)
     ∙ ap (all_new (known ++ take i vars)) (sym (drop_one vars i d within))
     ∙ so_far
 
-pub all_added : (known vars : List ℕ) (i : ℕ) → length vars ≤ i → all_new (known ++ take i vars) (drop i vars) ≡ all_new known vars → true ≡ all_new known vars
+pub all_added : (known vars : List ℕ) (i : ℕ) → length vars ≤ i → all_new (known ++ take i vars) (drop i vars) ≡ all_new known vars
+    → true ≡ all_new known vars
 all_added known vars i past so_far = ap (all_new (known ++ take i vars)) (sym (drop_all i vars past)) ∙ so_far

@@ -1,5 +1,6 @@
 -- The steps of a walk over code along all its ways, and what its end says of the code.
-use Rattle.std.proofs.Common.{Bool, List, None, Option, Some, [], ap, arith, cond, false, get_or, inl, inr, is_some, length, nat_eq, not, refl, replicate, set, subst, suc, sym, true, unwrap_or, zero, ℕ, ◌++◌, ◌+◌, ◌-◌, ◌<◌, ◌∙◌, ◌∷◌, ◌≡◌, ◌≤◌, ◌⊎◌}
+use Rattle.std.proofs.Common.{Bool, List, None, Option, Some, [], ap, arith, cond, false, get_or, inl, inr, is_some, length, nat_eq, not}
+use Rattle.std.proofs.Common.{refl, replicate, set, subst, suc, sym, true, unwrap_or, zero, ℕ, ◌++◌, ◌+◌, ◌-◌, ◌<◌, ◌∙◌, ◌∷◌, ◌≡◌, ◌≤◌, ◌⊎◌}
 use Rattle.std.specs.List.{slice_get}
 use Rattle.std.proofs.lemmas.Bool.{cases_eq}
 use Rattle.std.proofs.lemmas.List.{get_or-replicate, length-append, length-replicate, length-set}
@@ -108,7 +109,12 @@ walk_begins list n e = record {
   coming = λ w m. elim m [ inl s ↦ subst (λ u. IsReached list u.to u.operands) s first | inr k ↦ absurd k ];
   low = λ w m. elim m [
     | inl s ↦ subst (λ u. u.operands + unseen (replicate n None) ≤ length list + 1) s
-        (omega (arith, e, length-replicate {A = Option ℕ} n None, count_by-le-length (λ (c : Option ℕ). not (is_some c)) (replicate n None)))
+        (omega (
+          arith,
+          e,
+          length-replicate {A = Option ℕ} n None,
+          count_by-le-length (λ (c : Option ℕ). not (is_some c)) (replicate n None),
+        ))
     | inr k ↦ absurd k
   ];
 }
@@ -223,7 +229,8 @@ module _ (list : List Placed) (counts : List (Option ℕ)) (left : List ℕ) (to
 
 -- ---- an address whose ways are followed
 
-module _ (list : List Placed) (counts : List (Option ℕ)) (left : List ℕ) (at : ℕ) (walk : OperandWalk list counts (left ++ at ∷ []) []) where
+module _ (list : List Placed) (counts : List (Option ℕ)) (left : List ℕ) (at : ℕ)
+    (walk : OperandWalk list counts (left ++ at ∷ []) []) where
   pub seen_at : (d : ℕ) × IsSeen counts at d
   seen_at = walk.seen at (Member_right at left (at ∷ []) (inl refl))
 
@@ -273,7 +280,8 @@ module _ (list : List Placed) (counts : List (Option ℕ)) (left : List ℕ) (at
       one_count a e same s = one_seen counts at e d (subst (λ t. IsSeen counts t e) (sym same) s) here
 
       enough_there : (a e : ℕ) (j : Placed) → at ≡ a → IsSeen counts a e → slice_get list a ≡ Some j → needs j.instr ≤ e
-      enough_there a e j same s g = subst (λ x. needs x.instr ≤ e) (sym (one_instr j (moved j same g))) (subst (λ n. needs i.instr ≤ n) (sym (one_count a e same s)) enough_here)
+      enough_there a e j same s g = subst (λ x. needs x.instr ≤ e) (sym (one_instr j (moved j same g)))
+          (subst (λ n. needs i.instr ≤ n) (sym (one_count a e same s)) enough_here)
 
       way_there : (a e : ℕ) (j : Placed) (w : Way) → at ≡ a → IsSeen counts a e → slice_get list a ≡ Some j
           → Member w (ways j.instr a (e - needs j.instr)) → Member w (ways i.instr at (d - needs i.instr))

@@ -43,13 +43,15 @@ abbrev pub CodeStandsAt : List Placed → ℕ → List Placed → ℕ → Type 0
 CodeStandsAt code a [] b = a ≡ b
 CodeStandsAt code a (i ∷ is) b = (slice_get code a ≡ Some i) × CodeStandsAt code (a + 1) is b
 
-pub stands_front : (code : List Placed) (a b : ℕ) (xs ys : List Placed) → CodeStandsAt code a (xs ++ ys) b → CodeStandsAt code a xs (a + length xs)
+pub stands_front : (code : List Placed) (a b : ℕ) (xs ys : List Placed) → CodeStandsAt code a (xs ++ ys) b
+    → CodeStandsAt code a xs (a + length xs)
 stands_front code a b [] ys h = omega arith
 stands_front code a b (x ∷ xs) ys h =
     let e : a + 1 + length xs ≡ a + suc (length xs) = omega arith in
     (h.0, subst (λ n. CodeStandsAt code (a + 1) xs n) e (stands_front code (a + 1) b xs ys h.1))
 
-pub stands_back : (code : List Placed) (a b : ℕ) (xs ys : List Placed) → CodeStandsAt code a (xs ++ ys) b → CodeStandsAt code (a + length xs) ys b
+pub stands_back : (code : List Placed) (a b : ℕ) (xs ys : List Placed) → CodeStandsAt code a (xs ++ ys) b
+    → CodeStandsAt code (a + length xs) ys b
 stands_back code a b [] ys h = let e : a ≡ a + 0 = omega arith in subst (λ n. CodeStandsAt code n ys b) e h
 stands_back code a b (x ∷ xs) ys h =
     let e : a + 1 + length xs ≡ a + suc (length xs) = omega arith in

@@ -20,15 +20,19 @@ module _ (bytes : List ℕ) where
   abbrev pub ReadOr : Type 0
   ReadOr = ((texts : List Text) × ((tree : PlainTree) × IsRead bytes texts tree)) ⊎ ((refusal : Refusal) × IsFirstRefusal bytes refusal)
 
-  by_names : (texts : List Text) (tree : PlainTree) → IsParsed bytes texts tree → (first : Option Refusal) → earliest None (refusals texts tree) ≡ first → ReadOr
+  by_names : (texts : List Text) (tree : PlainTree) → IsParsed bytes texts tree → (first : Option Refusal)
+      → earliest None (refusals texts tree) ≡ first → ReadOr
   by_names texts tree p None e = inl (texts, (tree, record { parsed = p; resolves = none_came (refusals texts tree) e }))
-  by_names texts tree p (Some refusal) e = inr (refusal, inr (inr (record { texts = texts; tree = tree; parsed = p; refused = kept_is_first (refusals texts tree) refusal e })))
+  by_names texts tree p (Some refusal) e =
+      inr (refusal, inr (inr (record { texts = texts; tree = tree; parsed = p; refused = kept_is_first (refusals texts tree) refusal e })))
 
   by_tokens : (tokens : List Token) (texts : List Text) → Spells bytes tokens texts → HasTreeOrRefusal tokens → ReadOr
-  by_tokens tokens texts s (inl d) = by_names texts d.0 (record { tokens = tokens; spelled = s; derived = d.1 }) (earliest None (refusals texts d.0)) refl
+  by_tokens tokens texts s (inl d) =
+      by_names texts d.0 (record { tokens = tokens; spelled = s; derived = d.1 }) (earliest None (refusals texts d.0)) refl
   by_tokens tokens texts s (inr r) = inr (r.0, inr (inl (record { tokens = tokens; texts = texts; spelled = s; refused = r.1 })))
 
-  by_bytes : ((tokens : List Token) × ((texts : List Text) × Spells bytes tokens texts)) ⊎ ((refusal : Refusal) × lexer.IsFirstLexRefusal bytes refusal) → ReadOr
+  by_bytes : ((tokens : List Token) × ((texts : List Text) × Spells bytes tokens texts))
+      ⊎ ((refusal : Refusal) × lexer.IsFirstLexRefusal bytes refusal) → ReadOr
   by_bytes (inl s) = by_tokens s.0 s.1.0 s.1.1 (has_tree_or_refusal s.0 (ends_once (tokens_laid bytes s.0 s.1.0 s.1.1)))
   by_bytes (inr r) = inr (r.0, inl r.1)
 

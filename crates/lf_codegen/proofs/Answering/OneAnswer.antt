@@ -26,16 +26,20 @@ use Rattle.lf_codegen.proofs.FirstRefusal.First.{not_before_from}
 use Rattle.lf_codegen.proofs.FirstRefusal.RefusalPlaces.{refused_here, refused_names}
 
 -- ---- the first of some refusals, where no two stand at one place
-at_one_place : (a b : Place) → (a.line < b.line) ⊎ ((a.line ≡ b.line) × (a.column ≤ b.column)) → (b.line < a.line) ⊎ ((b.line ≡ a.line) × (b.column ≤ a.column)) → same_place a b ≡ true
+at_one_place : (a b : Place) → (a.line < b.line) ⊎ ((a.line ≡ b.line) × (a.column ≤ b.column))
+    → (b.line < a.line) ⊎ ((b.line ≡ a.line) × (b.column ≤ a.column)) → same_place a b ≡ true
 at_one_place a b (inl h) (inl k) = absurd (omega arith)
 at_one_place a b (inl h) (inr k) = absurd (omega (arith, k.0))
 at_one_place a b (inr h) (inl k) = absurd (omega (arith, h.0))
 at_one_place a b (inr h) (inr k) = and_from _ _ (eq-eqb a.line b.line h.0) (eq-eqb a.column b.column (omega (arith, h.1, k.1)))
 
-first_once : (all : List Refusal) (r s : Refusal) → ((place : Place) → count_by (refused_here place) all ≤ 1) → IsFirstOf all r → IsFirstOf all s → r ≡ s
+first_once : (all : List Refusal) (r s : Refusal) → ((place : Place) → count_by (refused_here place) all ≤ 1) → IsFirstOf all r
+    → IsFirstOf all s → r ≡ s
 first_once all r s once f g =
-    let here = at_one_place r.place s.place (not_before_from s.place r.place (f.least s g.is_there)) (not_before_from r.place s.place (g.least r f.is_there)) in
-    one_passes (refused_here r.place) r s all (once r.place) f.is_there g.is_there (and_from _ _ (eq-eqb r.place.line r.place.line refl) (eq-eqb r.place.column r.place.column refl)) here
+    let here = at_one_place r.place s.place (not_before_from s.place r.place (f.least s g.is_there))
+    (not_before_from r.place s.place (g.least r f.is_there)) in
+    one_passes (refused_here r.place) r s all (once r.place) f.is_there g.is_there
+    (and_from _ _ (eq-eqb r.place.line r.place.line refl) (eq-eqb r.place.column r.place.column refl)) here
 
 -- ---- one script
 pub derives : (tokens : List Token) (tree : PlainTree) → parser.IsTree tokens tree → parser.Derives tokens tree
@@ -64,7 +68,8 @@ module _ (bytes : List ℕ) where
   parsed_lines x t p = lines_in_order p.tokens t (tokens_on_lines bytes p.tokens x p.spelled) (derives p.tokens t p.derived)
 
   -- ---- one refusal
-  spelled_not_refused : (ts us : List Token) (x y : List Text) (t : PlainTree) (r : Refusal) → Spells bytes ts x → parser.IsTree ts t → Spells bytes us y → parser.IsRefusal us r → ⊥
+  spelled_not_refused : (ts us : List Token) (x y : List Text) (t : PlainTree) (r : Refusal) → Spells bytes ts x → parser.IsTree ts t
+      → Spells bytes us y → parser.IsRefusal us r → ⊥
   spelled_not_refused ts us x y t r s h s' k =
       tree_or_refusal us t r (subst (λ l. parser.IsTree l t) (tokens_once bytes ts us x y s s') h) k
 
@@ -80,9 +85,11 @@ module _ (bytes : List ℕ) where
   names_refused_once r s h k =
       let texts = parsed_texts h.texts k.texts h.tree k.tree h.parsed k.parsed in
       let trees = parsed_tree h.texts k.texts h.tree k.tree h.parsed k.parsed in
-      let there : IsFirstOf (refusals k.texts k.tree) r = subst (λ t. IsFirstOf (refusals k.texts t) r) trees (subst (λ x. IsFirstOf (refusals x h.tree) r) texts h.refused) in
+      let there : IsFirstOf (refusals k.texts k.tree) r =
+      subst (λ t. IsFirstOf (refusals k.texts t) r) trees (subst (λ x. IsFirstOf (refusals x h.tree) r) texts h.refused) in
       let order = parsed_names k.texts k.tree k.parsed in
-      first_once (refusals k.texts k.tree) r s (λ place. let le = refused_names place k.texts k.tree in let one = order.once place in omega arith) there k.refused
+      first_once (refusals k.texts k.tree) r s
+      (λ place. let le = refused_names place k.texts k.tree in let one = order.once place in omega arith) there k.refused
 
   pub refused_once : (r s : Refusal) → IsFirstRefusal bytes r → IsFirstRefusal bytes s → r ≡ s
   refused_once r s (inl h) (inl k) = refusal_once bytes r s h k
@@ -104,4 +111,5 @@ module _ (bytes : List ℕ) where
   read_not_refused x t r h (inr (inr k)) =
       let p = h.parsed in
       let q = k.parsed in
-      none_there x k.texts t k.tree r (parsed_texts x k.texts t k.tree p q) (parsed_tree x k.texts t k.tree p q) h.resolves (k.refused).is_there
+      none_there x k.texts t k.tree r (parsed_texts x k.texts t k.tree p q) (parsed_tree x k.texts t k.tree p q) h.resolves
+      (k.refused).is_there

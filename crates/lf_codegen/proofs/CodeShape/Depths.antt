@@ -211,10 +211,12 @@ module _ (t : List ℕ) where
         (behind (m + 1) b cr dr _ fr.0 hr) last in
         let rest : Flows t (m + 1) (cr ++ on_line line instr.Test ∷ []) (dr ++ (d + 1) ∷ []) b = joins (m + 1) b cr _ dr _ fr.0 ft in
         let target = m + 1 + length cr + 1 in
-        let to_end : slice_get t target ≡ Some (d + 1 - 1 + 1) = let e : d + 1 ≡ d + 1 - 1 + 1 =
-        omega arith in ap (slice_get t) ft.1 ∙ last ∙ ap Some e in
-        let to_next : slice_get t (m + 1) ≡ Some (d + 1 - 1) = let e : d ≡ d + 1 - 1 =
-        omega arith in expr_first s t r d (m + 1) _ (lie_front t (m + 1) b dr _ hr) ∙ ap Some e in
+        let to_end : slice_get t target ≡ Some (d + 1 - 1 + 1) =
+        let e : d + 1 ≡ d + 1 - 1 + 1 = omega arith in
+        ap (slice_get t) ft.1 ∙ last ∙ ap Some e in
+        let to_next : slice_get t (m + 1) ≡ Some (d + 1 - 1) =
+        let e : d ≡ d + 1 - 1 = omega arith in
+        expr_first s t r d (m + 1) _ (lie_front t (m + 1) b dr _ hr) ∙ ap Some e in
         joins a b cl _ dl _ fl.0 (
           (
             omega (arith, n target),
@@ -462,14 +464,12 @@ module _ (s : PlainScript) where
           (
             omega arith,
             (
-              ap (slice_get t) hj.1
-                  ∙ last,
+              ap (slice_get t) hj.1 ∙ last,
               (block_first t k (past + 1) _ (lie_front t (past + 1) b dk _ hb) jump_at.0, tt),
             ),
             rest.0,
           ),
-          omega
-              (arith, rest.1),
+          omega (arith, rest.1),
         ) in
         ticked line a b (on_line line instr.Tick ∷ (ce ++ round_code line (a + 1) past ck)) (0 ∷ (ds ++ 1 ∷ (dk ++ 0 ∷ []))) h.1.0
         (ticked line (a + 1) b (ce ++ round_code line (a + 1) past ck) (ds ++ 1 ∷ (dk ++ 0 ∷ [])) (expr_at e (a + 1 + 1) b _ h.1.1)

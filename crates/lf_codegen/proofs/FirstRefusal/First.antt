@@ -48,14 +48,17 @@ before_kept a b c (inr x) (inl y) = inl (omega (arith, x.0))
 before_kept a b c (inr x) (inr y) = inr (x.0 ∙ y.0, omega (arith, x.1, y.1))
 
 -- a refusal more, which stands before the first one, or doesn't
-with_sooner : (f x r : Refusal) (xs : List Refusal) → place_before x.place f.place ≡ true → IsFirstOf (x ∷ xs) r → IsFirstOf (f ∷ (x ∷ xs)) r
+with_sooner : (f x r : Refusal) (xs : List Refusal) → place_before x.place f.place ≡ true → IsFirstOf (x ∷ xs) r
+    → IsFirstOf (f ∷ (x ∷ xs)) r
 with_sooner f x r xs h first = record { is_there = inr first.is_there; least = least } where
   least : (other : Refusal) → Member other (f ∷ (x ∷ xs)) → place_before other.place r.place ≡ false
   least other (inl e) = subst (λ (o : Refusal). place_before o.place r.place ≡ false) e
-      (is_false f.place r.place (λ l. never x.place r.place (further x.place f.place r.place (before_from x.place f.place h) l) (not_before_from x.place r.place (first.least x (inl refl)))))
+      (is_false f.place r.place (λ l. never x.place r.place (further x.place f.place r.place (before_from x.place f.place h) l)
+      (not_before_from x.place r.place (first.least x (inl refl)))))
   least other (inr m) = first.least other m
 
-with_later : (f x r : Refusal) (xs : List Refusal) → place_before x.place f.place ≡ false → IsFirstOf (f ∷ xs) r → IsFirstOf (f ∷ (x ∷ xs)) r
+with_later : (f x r : Refusal) (xs : List Refusal) → place_before x.place f.place ≡ false → IsFirstOf (f ∷ xs) r
+    → IsFirstOf (f ∷ (x ∷ xs)) r
 with_later f x r xs h first = record { is_there = there first.is_there; least = least } where
   there : Member r (f ∷ xs) → Member r (f ∷ (x ∷ xs))
   there (inl e) = inl e
@@ -64,7 +67,8 @@ with_later f x r xs h first = record { is_there = there first.is_there; least = 
   least : (other : Refusal) → Member other (f ∷ (x ∷ xs)) → place_before other.place r.place ≡ false
   least other (inl e) = first.least other (inl e)
   least other (inr (inl e)) = subst (λ (o : Refusal). place_before o.place r.place ≡ false) e
-      (is_false x.place r.place (λ l. never f.place r.place (before_kept x.place f.place r.place (not_before_from x.place f.place h) l) (not_before_from f.place r.place (first.least f (inl refl)))))
+      (is_false x.place r.place (λ l. never f.place r.place (before_kept x.place f.place r.place (not_before_from x.place f.place h) l)
+      (not_before_from f.place r.place (first.least f (inl refl)))))
   least other (inr (inr m)) = first.least other (inr m)
 
 some_is : (f r : Refusal) → Some f ≡ Some r → f ≡ r
@@ -76,10 +80,11 @@ first_from f r [] e = record { is_there = inl (some_is f r e); least = least } w
   least other (inl m) = subst (λ (o : Refusal). place_before o.place r.place ≡ false) (sym (some_is f r e) ∙ m)
       (is_false r.place r.place (λ l. never r.place r.place l (itself r.place)))
   least other (inr m) = absurd m
-first_from f r (x ∷ xs) e = elim (place_before x.place f.place) as (λ b. place_before x.place f.place ≡ b → earliest (cond b (Some x) (Some f)) xs ≡ Some r → IsFirstOf (f ∷ (x ∷ xs)) r) [
-  | true ↦ λ h t. with_sooner f x r xs h (first_from x r xs t)
-  | false ↦ λ h t. with_later f x r xs h (first_from f r xs t)
-] refl e
+first_from f r (x ∷ xs) e = elim (place_before x.place f.place) as
+    (λ b. place_before x.place f.place ≡ b → earliest (cond b (Some x) (Some f)) xs ≡ Some r → IsFirstOf (f ∷ (x ∷ xs)) r) [
+      | true ↦ λ h t. with_sooner f x r xs h (first_from x r xs t)
+      | false ↦ λ h t. with_later f x r xs h (first_from f r xs t)
+    ] refl e
 
 -- what is kept of some refusals is the first of them
 pub kept_is_first : (rs : List Refusal) (r : Refusal) → earliest None rs ≡ Some r → IsFirstOf rs r

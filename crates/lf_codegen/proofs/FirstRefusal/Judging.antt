@@ -1,5 +1,6 @@
 -- The refusals of functions and of parameters, taken one by one.
-use Rattle.std.proofs.Common.{◌≡◌, ◌<◌, ◌+◌, ℕ, Bool, not, length, take, get_or, List, [], ◌∷◌, ◌++◌, is_some, ap, sym, ◌∙◌, append_assoc, append-nil, Option}
+use Rattle.std.proofs.Common.{◌≡◌, ◌<◌, ◌+◌, ℕ, Bool, not, length, take, get_or, List, [], ◌∷◌, ◌++◌, is_some, ap, sym, ◌∙◌, append_assoc}
+use Rattle.std.proofs.Common.{append-nil, Option}
 use Rattle.lf_base.specs.declared.refusals.Refusal.{Refusal}
 use Rattle.lf_base.specs.declared.refusals.RefusalKind.{RefusalKind}
 use Rattle.lf_base.specs.declared.refusals.RefusalKind.TheVariants.{DuplicateFunction, DuplicateName}
@@ -23,7 +24,8 @@ pub one_function_more : (texts : List Text) (known fs : List PlainFunction) (f :
 one_function_more texts known [] f =
     append-nil (duplicate texts known f) ∙ ap (λ l. duplicate texts l f) (sym (append-nil known))
 one_function_more texts known (g ∷ gs) f =
-    ap (λ l. duplicate texts known g ++ l) (one_function_more texts (known ++ g ∷ []) gs f ∙ ap (λ l. names_refusals texts (known ++ g ∷ []) gs ++ duplicate texts l f) (append_assoc known (g ∷ []) gs))
+    ap (λ l. duplicate texts known g ++ l) (one_function_more texts (known ++ g ∷ []) gs f
+    ∙ ap (λ l. names_refusals texts (known ++ g ∷ []) gs ++ duplicate texts l f) (append_assoc known (g ∷ []) gs))
     ∙ sym (append_assoc (duplicate texts known g) (names_refusals texts (known ++ g ∷ []) gs) (duplicate texts (known ++ (g ∷ gs)) f))
 
 -- the refusal of one parameter after others
@@ -33,19 +35,23 @@ repeated known x = refusals_at (kind_where (is_among x.id known) DuplicateName) 
 pub one_param_more : (known xs : List Name) (x : Name) → repeats known (xs ++ x ∷ []) ≡ repeats known xs ++ repeated (known ++ xs) x
 one_param_more known [] x = append-nil (repeated known x) ∙ ap (λ l. repeated l x) (sym (append-nil known))
 one_param_more known (y ∷ ys) x =
-    ap (λ l. repeated known y ++ l) (one_param_more (known ++ y ∷ []) ys x ∙ ap (λ l. repeats (known ++ y ∷ []) ys ++ repeated l x) (append_assoc known (y ∷ []) ys))
+    ap (λ l. repeated known y ++ l) (one_param_more (known ++ y ∷ []) ys x
+    ∙ ap (λ l. repeats (known ++ y ∷ []) ys ++ repeated l x) (append_assoc known (y ∷ []) ys))
     ∙ sym (append_assoc (repeated known y) (repeats (known ++ y ∷ []) ys) (repeated (known ++ (y ∷ ys)) x))
 
 -- one function more was judged
 pub judged_functions : (texts : List Text) (first : Option Refusal) (fs : List PlainFunction) (f : PlainFunction)
-    → earliest (earliest first (names_refusals texts [] fs)) (duplicate texts fs f) ≡ earliest first (names_refusals texts [] (fs ++ f ∷ []))
+    → earliest (earliest first (names_refusals texts [] fs)) (duplicate texts fs f) ≡ earliest first
+    (names_refusals texts [] (fs ++ f ∷ []))
 judged_functions texts first fs f =
-    sym (fold-append earlier_refusal first (names_refusals texts [] fs) (duplicate texts fs f)) ∙ ap (earliest first) (sym (one_function_more texts [] fs f))
+    sym (fold-append earlier_refusal first (names_refusals texts [] fs) (duplicate texts fs f))
+    ∙ ap (earliest first) (sym (one_function_more texts [] fs f))
 
 -- one parameter more was judged
 pub judged_params : (first : Option Refusal) (xs : List Name) (x : Name)
     → earliest (earliest first (repeats [] xs)) (repeated xs x) ≡ earliest first (repeats [] (xs ++ x ∷ []))
-judged_params first xs x = sym (fold-append earlier_refusal first (repeats [] xs) (repeated xs x)) ∙ ap (earliest first) (sym (one_param_more [] xs x))
+judged_params first xs x =
+    sym (fold-append earlier_refusal first (repeats [] xs) (repeated xs x)) ∙ ap (earliest first) (sym (one_param_more [] xs x))
 
 -- one parameter more was judged, by what the calls say of it
 pub param_step : (first : Option Refusal) (xs : List Name) (i : ℕ) (d : Name) → i < length xs

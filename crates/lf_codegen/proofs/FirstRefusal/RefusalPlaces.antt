@@ -1,5 +1,6 @@
 -- No two refusals of names and calls stand at one place.
-use Rattle.std.proofs.Common.{◌≡◌, ℕ, ◌+◌, ◌≤◌, List, [], ◌∷◌, ◌++◌, Bool, cond, map, flat_map, sum_by, count_by, Option, Some, None, is_some, refl, arith}
+use Rattle.std.proofs.Common.{◌≡◌, ℕ, ◌+◌, ◌≤◌, List, [], ◌∷◌, ◌++◌, Bool, cond, map, flat_map, sum_by, count_by, Option, Some, None}
+use Rattle.std.proofs.Common.{is_some, refl, arith}
 use Rattle.std.proofs.lemmas.List.Sums.{sum_by-cons, sum_by-append}
 use Rattle.lf_base.specs.declared.refusals.Place.{Place}
 use Rattle.lf_base.specs.declared.refusals.Refusal.{Refusal}
@@ -12,9 +13,11 @@ use Rattle.lf_parser.specs.TreeNames.{block_names, function_names, functions_nam
 use Rattle.lf_codegen.specs.declared.mention.Mention.{Mention}
 use Rattle.lf_codegen.specs.declared.mention.Mention.TheVariants.{Use, Bind, Call}
 use Rattle.lf_codegen.specs.Mentions.{block_mentions}
-use Rattle.lf_codegen.specs.Frames.{PlainFrame, frame_line, block_whens, function_whens, when_frames, main_frame, function_frame, frames, bound, is_among}
+use Rattle.lf_codegen.specs.Frames.{PlainFrame, frame_line, block_whens, function_whens, when_frames, main_frame, function_frame, frames}
+use Rattle.lf_codegen.specs.Frames.{bound, is_among}
 use Rattle.lf_codegen.specs.Callees.{callee_of}
-use Rattle.lf_codegen.specs.NameRefusals.{refusals_at, kind_where, mention_refusals, frame_refusals, repeats, params_refusals, names_refusals, refusals}
+use Rattle.lf_codegen.specs.NameRefusals.{refusals_at, kind_where, mention_refusals, frame_refusals, repeats, params_refusals}
+use Rattle.lf_codegen.specs.NameRefusals.{names_refusals, refusals}
 use Rattle.lf_codegen.proofs.OverLists.Counted.{flat_bound}
 use Rattle.lf_codegen.proofs.OverLists.StableSorts.{rising_sum}
 use Rattle.lf_codegen.proofs.Mentioning.MentionedNames.{mentioned, mention_times, frame_mention_times, block_times}
@@ -45,19 +48,28 @@ module _ (place : Place) where
   at_name None x = omega arith
   at_name (Some kind) x = omega (arith, sum_by-cons refusal_bit (record { kind = kind; place = x.place }) [])
 
-  at_mention : (texts : List Text) (functions : List PlainFunction) (names : List Name) (m : Mention) → refused (mention_refusals texts functions names m) ≤ bit (mentioned m)
+  at_mention : (texts : List Text) (functions : List PlainFunction) (names : List Name) (m : Mention)
+      → refused (mention_refusals texts functions names m) ≤ bit (mentioned m)
   at_mention texts functions names (Use x) = at_name _ x
   at_mention texts functions names (Bind x) = omega arith
   at_mention texts functions names (Call x count of_variable) = at_name _ x
 
-  in_frame : (texts : List Text) (functions : List PlainFunction) (f : PlainFrame) → refused (frame_refusals texts functions f) ≤ frame_times f
-  in_frame texts functions f = flat_bound refused_here (mention_refusals texts functions (bound f)) (λ m. bit (mentioned m)) (at_mention texts functions (bound f)) (block_mentions f.body)
+  in_frame : (texts : List Text) (functions : List PlainFunction) (f : PlainFrame)
+      → refused (frame_refusals texts functions f) ≤ frame_times f
+  in_frame texts functions f = flat_bound refused_here (mention_refusals texts functions (bound f)) (λ m. bit (mentioned m))
+      (at_mention texts functions (bound f)) (block_mentions f.body)
 
   in_params : (known xs : List Name) → refused (repeats known xs) ≤ count_by (stands_at place) xs
   in_params known [] = omega arith
   in_params known (x ∷ xs) =
       let kind = kind_where (is_among x.id known) DuplicateName in
-      omega (arith, sum_by-append refusal_bit (refusals_at kind x) (repeats (known ++ x ∷ []) xs), sum_by-cons bit x xs, at_name kind x, in_params (known ++ x ∷ []) xs)
+      omega (
+        arith,
+        sum_by-append refusal_bit (refusals_at kind x) (repeats (known ++ x ∷ []) xs),
+        sum_by-cons bit x xs,
+        at_name kind x,
+        in_params (known ++ x ∷ []) xs,
+      )
 
   in_names : (texts : List Text) (known fs : List PlainFunction) → refused (names_refusals texts known fs) ≤ sum_by (λ f. bit f.name) fs
   in_names texts known [] = omega arith
@@ -73,7 +85,8 @@ module _ (place : Place) where
 
   -- the functions' names: their own, those of their parameters, and those that their frames mention
   functions_times : (fs : List PlainFunction)
-      → sum_by (λ f. bit f.name) fs + (sum_by params_times fs + (in_frames (map function_frame fs) + in_frames (flat_map function_whens fs)))
+      → sum_by (λ f. bit f.name) fs + (sum_by params_times fs + (in_frames (map function_frame fs) + in_frames
+      (flat_map function_whens fs)))
       ≡ count_by (stands_at place) (functions_names fs)
   functions_times [] = refl
   functions_times (f ∷ fs) = omega (
@@ -102,7 +115,8 @@ module _ (place : Place) where
       )
 
   -- there are no more refusals at a place than names of the tree
-  pub refused_names : (texts : List Text) (tree : PlainTree) → count_by refused_here (refusals texts tree) ≤ count_by (stands_at place) (tree_names tree)
+  pub refused_names : (texts : List Text) (tree : PlainTree)
+      → count_by refused_here (refusals texts tree) ≤ count_by (stands_at place) (tree_names tree)
   refused_names texts tree =
       let fs = tree.functions in
       let names = names_refusals texts [] fs in

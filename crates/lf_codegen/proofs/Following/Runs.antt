@@ -169,7 +169,8 @@ module _ (s : PlainScript) (vars : List Name) (call : Callee) (calls_within : Ca
       (λ d. acted line i action n b d (stands_back code m b cr _ behind) (same n d))
 
   -- `and`, and `or`
-  and_runs : (l r : PlainExpr) → Ran l → Ran r → (line a b : ℕ) (c : Progress) → CodeStandsAt code a (expr_code s vars (plain.And l r) line a) b
+  and_runs : (l r : PlainExpr) → Ran l → Ran r → (line a b : ℕ) (c : Progress)
+      → CodeStandsAt code a (expr_code s vars (plain.And l r) line a) b
       → To (spot a c) b (expr_meaning s vars base call (plain.And l r) line c)
   and_runs l r run_l run_r line a b c h =
       let cl = expr_code s vars l line a in
@@ -187,7 +188,8 @@ module _ (s : PlainScript) (vars : List Name) (call : Callee) (calls_within : Ca
       (λ y e k. run_r line (m + 1) y e k))
       (moved (spot t d) t b (Next d) at_end stop)))
 
-  or_runs : (l r : PlainExpr) → Ran l → Ran r → (line a b : ℕ) (c : Progress) → CodeStandsAt code a (expr_code s vars (plain.Or l r) line a) b
+  or_runs : (l r : PlainExpr) → Ran l → Ran r → (line a b : ℕ) (c : Progress)
+      → CodeStandsAt code a (expr_code s vars (plain.Or l r) line a) b
       → To (spot a c) b (expr_meaning s vars base call (plain.Or l r) line c)
   or_runs l r run_l run_r line a b c h =
       let cl = expr_code s vars l line a in
@@ -361,7 +363,8 @@ module _ (s : PlainScript) (vars : List Name) (call : Callee) (calls_within : Ca
 
   -- the code of a block does what the block means
   abbrev RanBlock : PlainBlock → Type 0
-  RanBlock k = (a b : ℕ) (c : Progress) → CodeStandsAt code a (block_code s vars k a) b → To (spot a c) b (block_meaning s vars base call k c)
+  RanBlock k =
+      (a b : ℕ) (c : Progress) → CodeStandsAt code a (block_code s vars k a) b → To (spot a c) b (block_meaning s vars base call k c)
 
   if_statement : (e : PlainExpr) (first other : PlainBlock) → RanBlock first → RanBlock other → (line a b : ℕ) (c : Progress)
       → CodeStandsAt code a (stmt_code s vars (plain.If line e first other) a) b

@@ -1,5 +1,6 @@
 -- The lines of a tree's `when`s rise.
-use Rattle.std.proofs.Common.{◌≡◌, ℕ, ◌≤◌, ◌<◌, List, [], ◌∷◌, ◌++◌, cond, count_by, map, flat_map, eqb, ltb, refl, ap, sym, subst, inl, inr, arith}
+use Rattle.std.proofs.Common.{◌≡◌, ℕ, ◌≤◌, ◌<◌, List, [], ◌∷◌, ◌++◌, cond, count_by, map, flat_map, eqb, ltb, refl, ap, sym, subst, inl}
+use Rattle.std.proofs.Common.{inr, arith}
 use Rattle.std.proofs.lemmas.Bool.{eq-eqb, lt-ltb}
 use Rattle.std.proofs.lemmas.List.{map-append}
 use Rattle.std.proofs.lemmas.List.Sums.{sum_by-cons}
@@ -55,13 +56,21 @@ strict (n ∷ ns) u once = (
   where
     later : (y : ℕ) → n ≤ y → Member y ns → n < y
     later y le m = let one = once n in let two : n ≡ y → 1 ≤ count_by (eqb n) ns = λ e. member_counted (eqb n) y ns m (eq-eqb n y e) in
-        let differ : n ≡ y → ⊥ = λ e. let more = two e in omega (arith, sum_by-cons (λ x. cond (eqb n x) 1 0) n ns, ap {B = ℕ} (λ b. cond b 1 0) (eq-eqb n n refl)) in
+        let differ : n ≡ y → ⊥ = λ e. let more = two e in omega (
+          arith,
+          sum_by-cons (λ x. cond (eqb n x) 1 0) n ns,
+          ap {B = ℕ} (λ b. cond b 1 0) (eq-eqb n n refl),
+        ) in
         omega arith
 
 pub whens_rise : (tree : PlainTree) → LinesInOrder tree → Ascending ltb (map frame_line (when_frames tree))
 whens_rise tree order =
     let all = flat_map function_whens tree.functions ++ block_whens tree.main in
-    let part : Sub (lines_of all) (tree_lines tree) = both (flat_map function_whens tree.functions) (block_whens tree.main) _ _ (functions_lined tree.functions) (block_lined tree.main) in
+    let part : Sub (lines_of all) (tree_lines tree) = both (flat_map function_whens tree.functions) (block_whens tree.main) _ _
+    (functions_lined tree.functions) (block_lined tree.main) in
     let once : (n : ℕ) → count_by (eqb n) (rising (λ k. k) (lines_of all)) ≤ 1 =
-    λ n. let one = order.once n in let le = count_sub (eqb n) (eqb n) (λ k e. e) part in omega (arith, rising_sum (λ k. k) (λ x. cond (eqb n x) 1 0) (lines_of all)) in
-    subst (Ascending ltb) (sym (map_rising frame_line (λ k. k) all)) (strict (rising (λ k. k) (lines_of all)) (up_rising (λ k. k) (lines_of all)) once)
+    λ n. let one = order.once n in
+    let le = count_sub (eqb n) (eqb n) (λ k e. e) part in
+    omega (arith, rising_sum (λ k. k) (λ x. cond (eqb n x) 1 0) (lines_of all)) in
+    subst (Ascending ltb) (sym (map_rising frame_line (λ k. k) all))
+    (strict (rising (λ k. k) (lines_of all)) (up_rising (λ k. k) (lines_of all)) once)

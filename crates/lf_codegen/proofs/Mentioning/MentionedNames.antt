@@ -1,5 +1,6 @@
 -- What frames mention are the names of the tree: each frame's in their order, and all frames' as often as they stand.
-use Rattle.std.proofs.Common.{◌≡◌, ℕ, ◌+◌, List, [], ◌∷◌, ◌++◌, Bool, cond, map, sum_by, count_by, Option, Some, None, refl, ap, ap₂, ◌∙◌, arith}
+use Rattle.std.proofs.Common.{◌≡◌, ℕ, ◌+◌, List, [], ◌∷◌, ◌++◌, Bool, cond, map, sum_by, count_by, Option, Some, None, refl, ap, ap₂, ◌∙◌}
+use Rattle.std.proofs.Common.{arith}
 use Rattle.std.proofs.lemmas.List.{map-append}
 use Rattle.std.proofs.lemmas.List.Sums.{sum_by-cons, sum_by-append}
 use Rattle.lf_parser.specs.declared.name.Name.{Name}
@@ -94,7 +95,8 @@ module _ (test : Name → Bool) where
     stmt_times : (s : PlainStmt) → mention_times (stmt_mentions s) + frame_mention_times (stmt_whens s) ≡ count_by test (stmt_names s)
     stmt_times (plain.Assign line x value) = alone (Bind x ∷ expr_mentions value) _ (ap (λ l. x ∷ l) (expr_named value))
     stmt_times (plain.Store line target key value) =
-        alone _ _ (both (expr_mentions target) _ _ _ (expr_named target) (both (expr_mentions key) (expr_mentions value) _ _ (expr_named key) (expr_named value)))
+        alone _ _ (both (expr_mentions target) _ _ _ (expr_named target)
+        (both (expr_mentions key) (expr_mentions value) _ _ (expr_named key) (expr_named value)))
     stmt_times (plain.Drop line x) = alone (Use x ∷ []) (x ∷ []) refl
     stmt_times (plain.Return line value) = alone _ _ (value_named value)
     stmt_times (plain.Pass line) = refl
@@ -111,7 +113,13 @@ module _ (test : Name → Bool) where
       block_times other,
     )
     stmt_times (plain.While line test_of body) =
-        omega (arith, joined (expr_mentions test_of) (block_mentions body), split (expr_names test_of) (block_names body), of_expr test_of, block_times body)
+        omega (
+          arith,
+          joined (expr_mentions test_of) (block_mentions body),
+          split (expr_names test_of) (block_names body),
+          of_expr test_of,
+          block_times body,
+        )
     stmt_times (plain.When line cowns captures body) = omega (
       arith,
       joined (uses cowns) (uses captures),
@@ -123,7 +131,8 @@ module _ (test : Name → Bool) where
       block_times body,
     )
 
-    pub block_times : (b : PlainBlock) → mention_times (block_mentions b) + frame_mention_times (block_whens b) ≡ count_by test (block_names b)
+    pub block_times : (b : PlainBlock)
+        → mention_times (block_mentions b) + frame_mention_times (block_whens b) ≡ count_by test (block_names b)
     block_times no_stmts = refl
     block_times (stmt s ss) = omega (
       arith,

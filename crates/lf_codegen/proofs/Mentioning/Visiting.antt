@@ -40,9 +40,11 @@ size_left (e ∷ es) = expr_size e + size_left es
 -- ---- the last one is visited first
 last_mentions : (es : List PlainExpr) (e : PlainExpr) → mentions_left (es ++ e ∷ []) ≡ expr_mentions e ++ mentions_left es
 last_mentions [] e = sym (append-nil (expr_mentions e))
-last_mentions (x ∷ es) e = ap (λ ms. ms ++ expr_mentions x) (last_mentions es e) ∙ append_assoc (expr_mentions e) (mentions_left es) (expr_mentions x)
+last_mentions (x ∷ es) e =
+    ap (λ ms. ms ++ expr_mentions x) (last_mentions es e) ∙ append_assoc (expr_mentions e) (mentions_left es) (expr_mentions x)
 
-two_mentions : (es : List PlainExpr) (a b : PlainExpr) → mentions_left (es ++ b ∷ a ∷ []) ≡ (expr_mentions a ++ expr_mentions b) ++ mentions_left es
+two_mentions : (es : List PlainExpr) (a b : PlainExpr)
+    → mentions_left (es ++ b ∷ a ∷ []) ≡ (expr_mentions a ++ expr_mentions b) ++ mentions_left es
 two_mentions es a b =
     ap mentions_left (sym (append_assoc es (b ∷ []) (a ∷ [])))
     ∙ last_mentions (es ++ b ∷ []) a
@@ -58,7 +60,8 @@ args_mentions_left es (arg b bs) =
     ∙ sym (append_assoc (expr_mentions b) (args_mentions bs) (mentions_left es))
 
 -- an expression mentions what it mentions itself, and then what its parts do
-parts_mentions : (es : List PlainExpr) (e : PlainExpr) → own_mentions e ++ mentions_left (es ++ parts_back e) ≡ expr_mentions e ++ mentions_left es
+parts_mentions : (es : List PlainExpr) (e : PlainExpr)
+    → own_mentions e ++ mentions_left (es ++ parts_back e) ≡ expr_mentions e ++ mentions_left es
 parts_mentions es plain.Nothing = ap mentions_left (append-nil es)
 parts_mentions es plain.Yes = ap mentions_left (append-nil es)
 parts_mentions es plain.No = ap mentions_left (append-nil es)
@@ -124,13 +127,15 @@ module _ (vs us : List (Bor Expr)) (v : Bor Expr) (taken : vs ≡ us ++ v ∷ []
   before : plain_lent vs ≡ plain_lent us ++ one v ∷ []
   before = ap plain_lent taken ∙ map-append one us (v ∷ [])
 
-  pub visited : (old new : List Mention) (left : List PlainExpr) → new ≡ old ++ own_mentions (one v) → left ≡ plain_lent us ++ parts_back (one v)
+  pub visited : (old new : List Mention) (left : List PlainExpr) → new ≡ old ++ own_mentions (one v)
+      → left ≡ plain_lent us ++ parts_back (one v)
       → new ++ mentions_left left ≡ old ++ mentions_left (plain_lent vs)
   visited old new left n l =
       ap (λ ms. ms ++ mentions_left left) n
       ∙ ap (λ es. old ++ own_mentions (one v) ++ mentions_left es) l
       ∙ append_assoc old (own_mentions (one v)) (mentions_left (plain_lent us ++ parts_back (one v)))
-      ∙ ap (λ ms. old ++ ms) (parts_mentions (plain_lent us) (one v) ∙ sym (last_mentions (plain_lent us) (one v)) ∙ ap mentions_left (sym before))
+      ∙ ap (λ ms. old ++ ms) (parts_mentions (plain_lent us) (one v) ∙ sym (last_mentions (plain_lent us) (one v))
+      ∙ ap mentions_left (sym before))
 
   pub visited_smaller : (left : List PlainExpr) → left ≡ plain_lent us ++ parts_back (one v) → size_left left < size_left (plain_lent vs)
   visited_smaller left l =

@@ -43,7 +43,8 @@ function_added fs f id h = sym (with_last fs f id ∙ elim (same_text id f.name.
     ] refl ∙ ap (λ b. cond b (Some (length f.params)) (params_of fs id)) (same_text_sym id f.name.id))
 
 -- a function of a name that is there
-pub function_kept : (fs : List PlainFunction) (f : PlainFunction) (id : TextId) → is_some (params_of fs f.name.id) ≡ true → params_of fs id ≡ params_of (fs ++ f ∷ []) id
+pub function_kept : (fs : List PlainFunction) (f : PlainFunction) (id : TextId) → is_some (params_of fs f.name.id) ≡ true
+    → params_of fs id ≡ params_of (fs ++ f ∷ []) id
 function_kept fs f id h = sym (with_last fs f id ∙ elim (same_text id f.name.id) as (λ b. same_text id f.name.id ≡ b
     → option_or (params_of fs id) (cond b (Some (length f.params)) None) ≡ params_of fs id) [
       | true ↦ λ e. with_some (params_of fs id) _ (ap (λ k. is_some (params_of fs k)) (same_is id f.name.id e) ∙ h)

@@ -27,21 +27,25 @@ or_one false true = refl
 or_one false false = refl
 
 -- one name more
-pub among_more : (id : TextId) (names : List Name) (x : Name) → cond (same_text x.id id) true (is_among id names) ≡ is_among id (names ++ x ∷ [])
+pub among_more : (id : TextId) (names : List Name) (x : Name)
+    → cond (same_text x.id id) true (is_among id names) ≡ is_among id (names ++ x ∷ [])
 among_more id names x = or_one (same_text x.id id) (is_among id names) ∙ ap (λ t. is_among id names || (t || false)) (same_text_sym x.id id)
     ∙ sym (list_any-append (λ (y : Name). same_text id y.id) names (x ∷ []))
 
 -- a name that is there already
-pub among_again : (id : TextId) (names : List Name) (x : Name) → is_among x.id names ≡ true → is_among id (names ++ x ∷ []) ≡ is_among id names
+pub among_again : (id : TextId) (names : List Name) (x : Name) → is_among x.id names ≡ true
+    → is_among id (names ++ x ∷ []) ≡ is_among id names
 among_again id names x there = list_any-append (λ (y : Name). same_text id y.id) names (x ∷ [])
     ∙ elim (same_text id x.id) as (λ b. same_text id x.id ≡ b → (is_among id names || (b || false)) ≡ is_among id names) [
-      | true ↦ λ h. let t : is_among id names ≡ true = ap (λ k. is_among (record { index = k }) names) (eqb-true id.index x.id.index h) ∙ there in
+      | true ↦ λ h. let t : is_among id names ≡ true =
+          ap (λ k. is_among (record { index = k }) names) (eqb-true id.index x.id.index h) ∙ there in
           ap (λ b. b || true) t ∙ sym t
       | false ↦ λ h. or-false (is_among id names)
     ] refl
 
 -- a name that wasn't new when it was put in
-pub old_name : (names : List Name) (x : Name) (is_new : Bool) → is_new ≡ not (is_among x.id names) → is_new ≡ false → is_among x.id names ≡ true
+pub old_name : (names : List Name) (x : Name) (is_new : Bool) → is_new ≡ not (is_among x.id names) → is_new ≡ false
+    → is_among x.id names ≡ true
 old_name names x is_new e t = not-false (is_among x.id names) (sym e ∙ t)
 
 pub with_old : (names : List Name) (x : Name) → is_among x.id names ≡ true → with_new_name names x ≡ names

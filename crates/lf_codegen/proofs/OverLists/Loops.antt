@@ -14,11 +14,13 @@ pub fold_flat_step : {X Y A : Type 0} (g : A → Y → A) (f : X → List Y) (a 
 fold_flat_step g f a xs i d h = sym (fold-append g a (flat_map f (take i xs)) (f (get_or xs i d))) ∙ ap (fold g a) (flat_step f [] xs i d h)
 
 -- what f makes of one item more, put last
-pub map_step : {X A : Type 0} (f : X → A) (xs : List X) (i : ℕ) (d : X) → i < length xs → map f (take i xs) ++ f (get_or xs i d) ∷ [] ≡ map f (take (i + 1) xs)
+pub map_step : {X A : Type 0} (f : X → A) (xs : List X) (i : ℕ) (d : X) → i < length xs
+    → map f (take i xs) ++ f (get_or xs i d) ∷ [] ≡ map f (take (i + 1) xs)
 map_step f xs i d h = sym (map-append f (take i xs) (get_or xs i d ∷ [])) ∙ ap (map f) (sym (take_more xs i d h))
 
 -- the same, for an item that was read
-pub map_item : {X A : Type 0} (f : X → A) (xs : List X) (i : ℕ) (x : X) → i < length xs → x ≡ get_or xs i x → map f (take i xs) ++ f x ∷ [] ≡ map f (take (i + 1) xs)
+pub map_item : {X A : Type 0} (f : X → A) (xs : List X) (i : ℕ) (x : X) → i < length xs → x ≡ get_or xs i x
+    → map f (take i xs) ++ f x ∷ [] ≡ map f (take (i + 1) xs)
 map_item f xs i x h e = ap (λ y. map f (take i xs) ++ f y ∷ []) e ∙ map_step f xs i x h
 
 -- one item more was folded in, by what a call says of it
@@ -32,7 +34,8 @@ pub mapped : {X Y A : Type 0} (f : Y → A) (g : X → Y) (xs : List X) (i : ℕ
 mapped f g xs i x h e = sym (map-append f (map g (take i xs)) (g x ∷ [])) ∙ ap (map f) (map_item g xs i x h e)
 
 -- the same, folded in
-pub flat_mapped : {X Y Z A : Type 0} (h : A → Z → A) (f : Y → List Z) (g : X → Y) (a : A) (xs : List X) (i : ℕ) (x : X) → i < length xs → x ≡ get_or xs i x
+pub flat_mapped : {X Y Z A : Type 0} (h : A → Z → A) (f : Y → List Z) (g : X → Y) (a : A) (xs : List X) (i : ℕ) (x : X) → i < length xs
+    → x ≡ get_or xs i x
     → fold h (fold h a (flat_map f (map g (take i xs)))) (f (g x)) ≡ fold h a (flat_map f (map g (take (i + 1) xs)))
 flat_mapped h f g a xs i x l e =
     sym (fold-append h a (flat_map f (map g (take i xs))) (f (g x)))

@@ -1,5 +1,6 @@
 -- A stable sort by a number gives the items by rising key.
-use Rattle.std.proofs.Common.{◌≡◌, ◌≤◌, ◌<◌, ℕ, suc, Bool, true, false, cond, not, ◌&&◌, ◌==◌, ltb, List, [], ◌∷◌, length, map, filter, get_or, refl, ap, sym, subst, ◌∙◌, arith, ◌+◌, ◌⊎◌, inl, inr, sum_by}
+use Rattle.std.proofs.Common.{◌≡◌, ◌≤◌, ◌<◌, ℕ, suc, Bool, true, false, cond, not, ◌&&◌, ◌==◌, ltb, List, [], ◌∷◌, length, map, filter}
+use Rattle.std.proofs.Common.{get_or, refl, ap, sym, subst, ◌∙◌, arith, ◌+◌, ◌⊎◌, inl, inr, sum_by}
 use Rattle.std.proofs.lemmas.List.Sums.{sum_by-cons}
 use Rattle.lf_base.specs.Sets.{Member}
 use Rattle.std.proofs.lemmas.Bool.{ne_eqb, eq-eqb, eqb-true, ltb-true, ltb-false}
@@ -35,8 +36,11 @@ module _ {X : Type 0} (key : X → ℕ) where
 
   pub up_from : (xs : List X) → IsNonDecreasingBy key xs → KeysRise xs
   up_from [] h = tt
-  up_from (x ∷ xs) h =
-      (above_from (key x) xs (λ j d l. h 0 (suc j) d (omega arith) (omega arith)), up_from xs (λ i j d le l. h (suc i) (suc j) d (omega arith) (omega arith)))
+  up_from (x ∷ xs) h = (
+    above_from (key x) xs (λ j d l. h 0 (suc j) d (omega arith) (omega arith)),
+    up_from xs
+        (λ i j d le l. h (suc i) (suc j) d (omega arith) (omega arith)),
+  )
 
   -- a key that is there isn't below n
   not_below : (n m : ℕ) (xs : List X) (w : X) (ws : List X) → NoKeyBelow n xs → of_key m xs ≡ w ∷ ws → n ≤ m
@@ -67,7 +71,8 @@ module _ {X : Type 0} (key : X → ℕ) where
   one_order (y ∷ ys) [] u v e = let h = sym (own_key y ys) ∙ e y in absurd cc
   one_order (y ∷ ys) (z ∷ zs) u v e =
       let y_first : key y ≤ key z = not_below (key y) (key z) (y ∷ ys) z (of_key (key z) zs) (omega arith, u.0) (e z ∙ own_key z zs) in
-      let z_first : key z ≤ key y = not_below (key z) (key y) (z ∷ zs) y (of_key (key y) ys) (omega arith, v.0) (sym (e y) ∙ own_key y ys) in
+      let z_first : key z ≤ key y =
+      not_below (key z) (key y) (z ∷ zs) y (of_key (key y) ys) (omega arith, v.0) (sym (e y) ∙ own_key y ys) in
       let same : key z ≡ key y = omega arith in
       let heads = sym (own_key y ys) ∙ e y ∙ ap (λ b. cond b (z ∷ of_key (key y) zs) (of_key (key y) zs)) (eq-eqb (key z) (key y) same) in
       let tails : (x : X) → of_key (key x) ys ≡ of_key (key x) zs =
@@ -83,10 +88,11 @@ module _ {X : Type 0} (key : X → ℕ) where
 
   up_placed : (x : X) (ys : List X) → KeysRise ys → KeysRise (put_in_order key x ys)
   up_placed x [] u = (tt, tt)
-  up_placed x (y ∷ ys) u = elim (ltb (key y) (key x)) as (λ b. ltb (key y) (key x) ≡ b → KeysRise (cond b (y ∷ put_in_order key x ys) (x ∷ (y ∷ ys)))) [
-    | true ↦ λ h. let l = ltb-true (key y) (key x) h in (above_placed (key y) x ys (omega arith) u.0, up_placed x ys u.1)
-    | false ↦ λ h. let l = ltb-false (key y) (key x) h in ((l, lower (key x) (key y) ys l u.0), u)
-  ] refl
+  up_placed x (y ∷ ys) u =
+      elim (ltb (key y) (key x)) as (λ b. ltb (key y) (key x) ≡ b → KeysRise (cond b (y ∷ put_in_order key x ys) (x ∷ (y ∷ ys)))) [
+        | true ↦ λ h. let l = ltb-true (key y) (key x) h in (above_placed (key y) x ys (omega arith) u.0, up_placed x ys u.1)
+        | false ↦ λ h. let l = ltb-false (key y) (key x) h in ((l, lower (key x) (key y) ys l u.0), u)
+      ] refl
 
   pub up_rising : (xs : List X) → KeysRise (rising key xs)
   up_rising [] = tt
@@ -95,20 +101,23 @@ module _ {X : Type 0} (key : X → ℕ) where
   -- an item may pass one of another key
   pass : (n : ℕ) (x y : X) (zs : List X) → key y < key x → of_key n (y ∷ (x ∷ zs)) ≡ of_key n (x ∷ (y ∷ zs))
   pass n x y zs l = elim (key x == n) as (λ b. (key x == n) ≡ b
-      → cond (key y == n) (y ∷ cond b (x ∷ of_key n zs) (of_key n zs)) (cond b (x ∷ of_key n zs) (of_key n zs)) ≡ cond b (x ∷ of_key n (y ∷ zs)) (of_key n (y ∷ zs))) [
-        | true ↦ λ h. elim (key y == n) as (λ d. (key y == n) ≡ d → cond d (y ∷ (x ∷ of_key n zs)) (x ∷ of_key n zs) ≡ x ∷ cond d (y ∷ of_key n zs) (of_key n zs)) [
-          | true ↦ λ k. let p = eqb-true (key x) n h in let q = eqb-true (key y) n k in absurd (omega arith)
-          | false ↦ λ k. refl
-        ] refl
+      → cond (key y == n) (y ∷ cond b (x ∷ of_key n zs) (of_key n zs)) (cond b (x ∷ of_key n zs) (of_key n zs)) ≡ cond b
+      (x ∷ of_key n (y ∷ zs)) (of_key n (y ∷ zs))) [
+        | true ↦ λ h. elim (key y == n) as (λ d. (key y == n) ≡ d
+            → cond d (y ∷ (x ∷ of_key n zs)) (x ∷ of_key n zs) ≡ x ∷ cond d (y ∷ of_key n zs) (of_key n zs)) [
+              | true ↦ λ k. let p = eqb-true (key x) n h in let q = eqb-true (key y) n k in absurd (omega arith)
+              | false ↦ λ k. refl
+            ] refl
         | false ↦ λ h. refl
       ] refl
 
   key_placed : (n : ℕ) (x : X) (ys : List X) → of_key n (put_in_order key x ys) ≡ of_key n (x ∷ ys)
   key_placed n x [] = refl
-  key_placed n x (y ∷ ys) = elim (ltb (key y) (key x)) as (λ b. ltb (key y) (key x) ≡ b → of_key n (cond b (y ∷ put_in_order key x ys) (x ∷ (y ∷ ys))) ≡ of_key n (x ∷ (y ∷ ys))) [
-    | true ↦ λ h. ap (λ l. cond (key y == n) (y ∷ l) l) (key_placed n x ys) ∙ pass n x y ys (ltb-true (key y) (key x) h)
-    | false ↦ λ h. refl
-  ] refl
+  key_placed n x (y ∷ ys) = elim (ltb (key y) (key x)) as (λ b. ltb (key y) (key x) ≡ b
+      → of_key n (cond b (y ∷ put_in_order key x ys) (x ∷ (y ∷ ys))) ≡ of_key n (x ∷ (y ∷ ys))) [
+        | true ↦ λ h. ap (λ l. cond (key y == n) (y ∷ l) l) (key_placed n x ys) ∙ pass n x y ys (ltb-true (key y) (key x) h)
+        | false ↦ λ h. refl
+      ] refl
 
   key_rising : (n : ℕ) (xs : List X) → of_key n (rising key xs) ≡ of_key n xs
   key_rising n [] = refl
@@ -122,10 +131,11 @@ module _ {X : Type 0} (key : X → ℕ) where
 module _ {X : Type 0} (key f : X → ℕ) where
   placed_sum : (x : X) (ys : List X) → sum_by f (put_in_order key x ys) ≡ f x + sum_by f ys
   placed_sum x [] = sum_by-cons f x []
-  placed_sum x (y ∷ ys) = elim (ltb (key y) (key x)) as (λ b. sum_by f (cond b (y ∷ put_in_order key x ys) (x ∷ (y ∷ ys))) ≡ f x + sum_by f (y ∷ ys)) [
-    | true ↦ omega (arith, sum_by-cons f y (put_in_order key x ys), sum_by-cons f y ys, placed_sum x ys)
-    | false ↦ sum_by-cons f x (y ∷ ys)
-  ]
+  placed_sum x (y ∷ ys) =
+      elim (ltb (key y) (key x)) as (λ b. sum_by f (cond b (y ∷ put_in_order key x ys) (x ∷ (y ∷ ys))) ≡ f x + sum_by f (y ∷ ys)) [
+        | true ↦ omega (arith, sum_by-cons f y (put_in_order key x ys), sum_by-cons f y ys, placed_sum x ys)
+        | false ↦ sum_by-cons f x (y ∷ ys)
+      ]
 
   pub rising_sum : (xs : List X) → sum_by f (rising key xs) ≡ sum_by f xs
   rising_sum [] = refl
@@ -134,20 +144,23 @@ module _ {X : Type 0} (key f : X → ℕ) where
 module _ {X : Type 0} (key : X → ℕ) where
   of_placed : (x y : X) (ys : List X) → Member y (put_in_order key x ys) → (x ≡ y) ⊎ Member y ys
   of_placed x y [] m = m
-  of_placed x y (z ∷ zs) m = elim (ltb (key z) (key x)) as (λ b. Member y (cond b (z ∷ put_in_order key x zs) (x ∷ (z ∷ zs))) → (x ≡ y) ⊎ Member y (z ∷ zs)) [
-    | true ↦ λ n. elim n [ inl e ↦ inr (inl e) | inr k ↦ elim (of_placed x y zs k) [ inl e ↦ inl e | inr l ↦ inr (inr l) ] ]
-    | false ↦ λ n. n
-  ] m
+  of_placed x y (z ∷ zs) m =
+      elim (ltb (key z) (key x)) as (λ b. Member y (cond b (z ∷ put_in_order key x zs) (x ∷ (z ∷ zs))) → (x ≡ y) ⊎ Member y (z ∷ zs)) [
+        | true ↦ λ n. elim n [ inl e ↦ inr (inl e) | inr k ↦ elim (of_placed x y zs k) [ inl e ↦ inl e | inr l ↦ inr (inr l) ] ]
+        | false ↦ λ n. n
+      ] m
 
   pub of_rising : (y : X) (xs : List X) → Member y (rising key xs) → Member y xs
   of_rising y [] m = m
   of_rising y (x ∷ xs) m = elim (of_placed x y (rising key xs) m) [ inl e ↦ inl e | inr k ↦ inr (of_rising y xs k) ]
 
 -- what is made of each item, where the key is kept
-pub map_placed : {X Y : Type 0} (f : X → Y) (key : Y → ℕ) (x : X) (ys : List X) → map f (put_in_order (λ z. key (f z)) x ys) ≡ put_in_order key (f x) (map f ys)
+pub map_placed : {X Y : Type 0} (f : X → Y) (key : Y → ℕ) (x : X) (ys : List X)
+    → map f (put_in_order (λ z. key (f z)) x ys) ≡ put_in_order key (f x) (map f ys)
 map_placed f key x [] = refl
 map_placed f key x (y ∷ ys) = elim (ltb (key (f y)) (key (f x)))
-    as (λ b. map f (cond b (y ∷ put_in_order (λ z. key (f z)) x ys) (x ∷ (y ∷ ys))) ≡ cond b (f y ∷ put_in_order key (f x) (map f ys)) (f x ∷ (f y ∷ map f ys))) [
+    as (λ b. map f (cond b (y ∷ put_in_order (λ z. key (f z)) x ys) (x ∷ (y ∷ ys))) ≡ cond b (f y ∷ put_in_order key (f x) (map f ys))
+    (f x ∷ (f y ∷ map f ys))) [
       | true ↦ ap (λ l. f y ∷ l) (map_placed f key x ys)
       | false ↦ refl
     ]
@@ -157,7 +170,8 @@ map_rising f key [] = refl
 map_rising f key (x ∷ xs) = map_placed f key x (rising (λ z. key (f z)) xs) ∙ ap (put_in_order key (f x)) (map_rising f key xs)
 
 -- two numbers tie exactly where they are one
-tie : (m n : ℕ) (o p : Ordering) → MatchOrdering o (m < n) (m ≡ n) (n < m) → MatchOrdering p (n < m) (n ≡ m) (m < n) → (not (is_lt o) && not (is_lt p)) ≡ (n == m)
+tie : (m n : ℕ) (o p : Ordering) → MatchOrdering o (m < n) (m ≡ n) (n < m) → MatchOrdering p (n < m) (n ≡ m) (m < n)
+    → (not (is_lt o) && not (is_lt p)) ≡ (n == m)
 tie m n Less p h k = sym (ne_eqb n m (λ e. omega arith))
 tie m n Equal Less h k = sym (ne_eqb n m (λ e. omega arith))
 tie m n Equal Equal h k = sym (eq-eqb n m k)
@@ -170,5 +184,7 @@ pub ties_are : (m n : ℕ) → (not (is_lt (nat_cmp m n)) && not (is_lt (nat_cmp
 ties_are m n = tie m n (nat_cmp m n) (nat_cmp n m) (ranked m n (nat_cmp m n) refl) (ranked n m (nat_cmp n m) refl)
 
 -- what a stable sort by a number keeps
-pub stable_keys : {X : Type 0} (key : X → ℕ) (xs ys : List X) → IsStableByKey key nat_cmp xs ys → (x : X) → filter (λ y. key y == key x) ys ≡ filter (λ y. key y == key x) xs
-stable_keys key xs ys h x = sym (λ i. filter (λ y. ties_are (key x) (key y) i) ys) ∙ h x ∙ (λ i. filter (λ y. ties_are (key x) (key y) i) xs)
+pub stable_keys : {X : Type 0} (key : X → ℕ) (xs ys : List X) → IsStableByKey key nat_cmp xs ys → (x : X)
+    → filter (λ y. key y == key x) ys ≡ filter (λ y. key y == key x) xs
+stable_keys key xs ys h x =
+    sym (λ i. filter (λ y. ties_are (key x) (key y) i) ys) ∙ h x ∙ (λ i. filter (λ y. ties_are (key x) (key y) i) xs)

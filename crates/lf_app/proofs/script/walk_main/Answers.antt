@@ -11,7 +11,8 @@ loop-stmt-preserved c =
     let at = c.loop-stmt.stmt-index in
     let said = c.stmt-item.result in
     let parts = drop_more stmts at said (grind arith) ∙ ap (λ first. first ∷ drop (at + 1) stmts) (sym c.stmt-item.is) in
-    walked_on (drop at stmts) said (drop (at + 1) stmts) (course_from (plain_block stmts) walk_start) c.loop-stmt.walk c.statement.new.self parts
+    walked_on (drop at stmts) said (drop (at + 1) stmts) (course_from (plain_block stmts) walk_start) c.loop-stmt.walk c.statement.new.self
+    parts
     (rw c.if-not-branch.false at c.in_ok-statement.ensures) c.loop-stmt.invariant
 
 pub returns-then-not-branch : goal.returns-then-not-branch
@@ -20,7 +21,8 @@ returns-then-not-branch c =
     let at = c.loop-stmt.stmt-index in
     let said = c.stmt-item.result in
     let parts = drop_more stmts at said (grind arith) ∙ ap (λ first. first ∷ drop (at + 1) stmts) (sym c.stmt-item.is) in
-    walked_off (drop at stmts) said (drop (at + 1) stmts) (course_from (plain_block stmts) walk_start) c.loop-stmt.walk c.statement.new.self c.stmt_line.result parts
+    walked_off (drop at stmts) said (drop (at + 1) stmts) (course_from (plain_block stmts) walk_start) c.loop-stmt.walk c.statement.new.self
+    c.stmt_line.result parts
     (rw c.if-not-branch.true at c.in_ok-statement.ensures) c.loop-stmt.invariant c.stmt_line.ensures
 
 pub returns : goal.returns

@@ -10,5 +10,6 @@ returns c =
       | then-branch+in_ok-add_new-2 w ↦
           w.result-is ∙ (w.in_ok-add_new-2.ensures c.args.captures.now (first.1 w.if-branch.true)).0
           ∙ both_lists c.args.cowns.now c.args.captures.now (sym first.0 ∙ w.if-branch.true)
-      | else-branch w ↦ w.result-is ∙ w.if-branch.false ∙ first_list_fails c.args.cowns.now c.args.captures.now (sym first.0 ∙ w.if-branch.false)
+      | else-branch w ↦ w.result-is ∙ w.if-branch.false
+          ∙ first_list_fails c.args.cowns.now c.args.captures.now (sym first.0 ∙ w.if-branch.false)
     ]

@@ -7,11 +7,19 @@ use Rattle.lf_code.proofs.listing.write_instr_line.Goals as goal
 pub returns-in_err-write_instr : goal.returns-in_err-write_instr
 returns-in_err-write_instr g c =
     let words = instr_words c.args.texts.now c.args.placed.now.instr in
-    second_ends (stream_of g.K.Sink.held g.K.Sink.faults c.args.out.now) (stream_of g.K.Sink.held g.K.Sink.faults c.write_place.new.out) (stream_of g.K.Sink.held g.K.Sink.faults c.write_instr.new.out) (place_words c.args.at c.args.placed.now.line) (words ++ codes "\n") _ c.from_residual-in_err-write_instr.result c.in_ok-write_place.ensures
-    (first_fails (stream_of g.K.Sink.held g.K.Sink.faults c.write_place.new.out) (stream_of g.K.Sink.held g.K.Sink.faults c.write_instr.new.out) words (codes "\n") _ c.from_residual-in_err-write_instr.result c.in_err-write_instr.ensures c.from_residual-in_err-write_instr.ensures.0)
+    second_ends (stream_of g.K.Sink.held g.K.Sink.faults c.args.out.now) (stream_of g.K.Sink.held g.K.Sink.faults c.write_place.new.out)
+    (stream_of g.K.Sink.held g.K.Sink.faults c.write_instr.new.out) (place_words c.args.at c.args.placed.now.line) (words ++ codes "\n")
+    _ c.from_residual-in_err-write_instr.result c.in_ok-write_place.ensures
+    (first_fails (stream_of g.K.Sink.held g.K.Sink.faults c.write_place.new.out)
+    (stream_of g.K.Sink.held g.K.Sink.faults c.write_instr.new.out) words (codes "\n") _ c.from_residual-in_err-write_instr.result
+    c.in_err-write_instr.ensures c.from_residual-in_err-write_instr.ensures.0)
 
 pub returns : goal.returns
 returns g c =
     let words = instr_words c.args.texts.now c.args.placed.now.instr in
-    second_ends (stream_of g.K.Sink.held g.K.Sink.faults c.args.out.now) (stream_of g.K.Sink.held g.K.Sink.faults c.write_place.new.out) (stream_of g.K.Sink.held g.K.Sink.faults c.write_word.new.out) (place_words c.args.at c.args.placed.now.line) (words ++ codes "\n") _ c.write_word.result c.in_ok-write_place.ensures
-    (second_ends (stream_of g.K.Sink.held g.K.Sink.faults c.write_place.new.out) (stream_of g.K.Sink.held g.K.Sink.faults c.write_instr.new.out) (stream_of g.K.Sink.held g.K.Sink.faults c.write_word.new.out) words (codes "\n") _ c.write_word.result c.in_ok-write_instr.ensures c.write_word.ensures)
+    second_ends (stream_of g.K.Sink.held g.K.Sink.faults c.args.out.now) (stream_of g.K.Sink.held g.K.Sink.faults c.write_place.new.out)
+    (stream_of g.K.Sink.held g.K.Sink.faults c.write_word.new.out) (place_words c.args.at c.args.placed.now.line) (words ++ codes "\n")
+    _ c.write_word.result c.in_ok-write_place.ensures
+    (second_ends (stream_of g.K.Sink.held g.K.Sink.faults c.write_place.new.out)
+    (stream_of g.K.Sink.held g.K.Sink.faults c.write_instr.new.out) (stream_of g.K.Sink.held g.K.Sink.faults c.write_word.new.out) words
+    (codes "\n") _ c.write_word.result c.in_ok-write_instr.ensures c.write_word.ensures)

@@ -6,4 +6,5 @@ use Rattle.lf_codegen.proofs.frames.+whens.Given as goal
 
 abbrev pub invariant-of_stmts-loop-stmt : goal.invariant-of_stmts-loop-stmt
 invariant-of_stmts-loop-stmt l =
-    plain_frames l.out.items ++ block_whens (plain_block (drop l.stmt-index l.stmts)) ≡ plain_frames l.fn.out.items ++ block_whens (plain_block l.stmts)
+    plain_frames l.out.items ++ block_whens (plain_block (drop l.stmt-index l.stmts)) ≡ plain_frames l.fn.out.items ++ block_whens
+    (plain_block l.stmts)

@@ -11,6 +11,8 @@ returns-clause-refusals c texts functions knows =
     let old = c.args.first.now.refusal in
     let body = block_mentions (plain_block c.args.frame.now.body.now) in
     c.judge_mentions.ensures texts functions (c.as_slice-own.result.now ++ flat_map binds c.as_slice.result.now) knows c.in_ok-bound.ensures
-    ∙ ap (λ ms. earliest old (flat_map (mention_refusals texts functions (c.as_slice-own.result.now ++ flat_map binds c.as_slice.result.now)) ms)) (c.as_slice-3.ensures.value ∙ c.in_ok-mentions.ensures)
-    ∙ ap (λ ms. earliest old (flat_map (mention_refusals texts functions (c.as_slice-own.result.now ++ flat_map binds ms)) body)) (c.as_slice.ensures.value ∙ c.in_ok-mentions.ensures)
+    ∙ ap (λ ms. earliest old (flat_map (mention_refusals texts functions
+    (c.as_slice-own.result.now ++ flat_map binds c.as_slice.result.now)) ms)) (c.as_slice-3.ensures.value ∙ c.in_ok-mentions.ensures)
+    ∙ ap (λ ms. earliest old (flat_map (mention_refusals texts functions (c.as_slice-own.result.now ++ flat_map binds ms)) body))
+    (c.as_slice.ensures.value ∙ c.in_ok-mentions.ensures)
     ∙ ap (λ own. earliest old (flat_map (mention_refusals texts functions (own ++ flat_map binds body)) body)) c.as_slice-own.ensures

@@ -16,6 +16,8 @@ loop-frame-preserved c =
           ∙ ap (λ n. map variables (plain_frames (take i frames)) ++ n ∷ []) c.in_ok-names.ensures.variables
           ∙ mapped variables plain_frame frames i frame c.loop-frame-test.true c.frame-item.is,
       λ texts functions knows. c.in_ok-names.ensures.refusals texts functions knows
-          ∙ ap (λ r. fold earlier_refusal r (frame_refusals texts functions (plain_frame frame))) (c.loop-frame.invariant.1 texts functions knows)
-          ∙ flat_mapped earlier_refusal (frame_refusals texts functions) plain_frame c.args.first.now.refusal frames i frame c.loop-frame-test.true c.frame-item.is,
+          ∙ ap (λ r. fold earlier_refusal r (frame_refusals texts functions (plain_frame frame)))
+          (c.loop-frame.invariant.1 texts functions knows)
+          ∙ flat_mapped earlier_refusal (frame_refusals texts functions) plain_frame c.args.first.now.refusal frames i frame
+          c.loop-frame-test.true c.frame-item.is,
     )

@@ -11,4 +11,5 @@ abbrev pub invariant-loop-frame : goal.invariant-loop-frame
 invariant-loop-frame l =
     (l.all ≡ map variables (plain_frames (take l.frame-index l.frames)))
     × ((texts : List Text) (functions : List PlainFunction) → Knows l.callees texts functions
-    → l.first.refusal ≡ earliest l.fn.first.refusal (flat_map (frame_refusals texts functions) (plain_frames (take l.frame-index l.frames))))
+    → l.first.refusal ≡ earliest l.fn.first.refusal (flat_map (frame_refusals texts functions)
+    (plain_frames (take l.frame-index l.frames))))

@@ -7,10 +7,12 @@ use Rattle.lf_codegen.proofs.resolving.judge_mentions.Goals as goal
 
 pub loop-mention-preserved : goal.loop-mention-preserved
 loop-mention-preserved c texts functions names knows has =
-    folded earlier_refusal (mention_refusals texts functions names) c.args.first.now.refusal c.args.mentions.now c.loop-mention.mention-index _ c.loop-mention-test.true _ _
+    folded earlier_refusal (mention_refusals texts functions names) c.args.first.now.refusal c.args.mentions.now
+    c.loop-mention.mention-index _ c.loop-mention-test.true _ _
     (c.judge_mention.ensures texts functions names knows has) (c.loop-mention.invariant texts functions names knows has)
 
 pub returns : goal.returns
 returns c texts functions names knows has =
     c.loop-mention.invariant texts functions names knows has
-    ∙ ap (λ l. earliest c.args.first.now.refusal (flat_map (mention_refusals texts functions names) l)) (take_all c.loop-mention.mention-index c.args.mentions.now (grind arith))
+    ∙ ap (λ l. earliest c.args.first.now.refusal (flat_map (mention_refusals texts functions names) l))
+    (take_all c.loop-mention.mention-index c.args.mentions.now (grind arith))

@@ -9,5 +9,6 @@ use Rattle.lf_codegen.specs.TablesMean.{Knows}
 use Rattle.lf_codegen.proofs.resolving.judge_mentions.Given as goal
 
 abbrev pub invariant-loop-mention : goal.invariant-loop-mention
-invariant-loop-mention l = (texts : List Text) (functions : List PlainFunction) (names : List Name) → Knows l.callees texts functions → HasNames l.bound names
+invariant-loop-mention l =
+    (texts : List Text) (functions : List PlainFunction) (names : List Name) → Knows l.callees texts functions → HasNames l.bound names
     → l.first.refusal ≡ earliest l.fn.first.refusal (flat_map (mention_refusals texts functions names) (take l.mention-index l.mentions))

@@ -8,7 +8,8 @@ pub loop-v-preserved : goal.loop-v-preserved
 loop-v-preserved c known has =
     let old = c.loop-v.invariant known has in (
       put_in c.loop-v.self c.add.new.self known c.args.vars.now c.loop-v.v-index _ c.loop-v-test.true c.in_ok-add.ensures.has old.0,
-      one_added c.loop-v.self known c.args.vars.now c.loop-v.v-index _ c.in_ok-add.field-0 c.loop-v-test.true c.in_ok-add.ensures.is_new c.if-not-branch.false old.0 old.1,
+      one_added c.loop-v.self known c.args.vars.now c.loop-v.v-index _ c.in_ok-add.field-0 c.loop-v-test.true c.in_ok-add.ensures.is_new
+          c.if-not-branch.false old.0 old.1,
     )
 
 pub returns : goal.returns

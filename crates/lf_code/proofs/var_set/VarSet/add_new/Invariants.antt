@@ -4,4 +4,5 @@ use Rattle.lf_code.proofs.var_set.VarSet.add_new.Given as goal
 
 abbrev pub invariant-loop-v : goal.invariant-loop-v
 invariant-loop-v l = (known : List ℕ) → HasVars l.fn.self known
-    → HasVars l.self (known ++ take l.v-index l.vars) × (all_new (known ++ take l.v-index l.vars) (drop l.v-index l.vars) ≡ all_new known l.vars)
+    → HasVars l.self (known ++ take l.v-index l.vars)
+    × (all_new (known ++ take l.v-index l.vars) (drop l.v-index l.vars) ≡ all_new known l.vars)

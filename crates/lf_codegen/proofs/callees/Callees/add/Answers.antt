@@ -21,5 +21,6 @@ returns-else-not-contains_key c texts fs knows =
     let f = plain_function c.args.function.now in
     record {
       texts_are = knows.texts_are;
-      params_are = λ id. knows.params_are id ∙ function_kept fs f id (ap is_some (sym (knows.params_are f.name.id)) ∙ sym c.if-not-contains_key.ensures);
+      params_are = λ id. knows.params_are id
+          ∙ function_kept fs f id (ap is_some (sym (knows.params_are f.name.id)) ∙ sym c.if-not-contains_key.ensures);
     }

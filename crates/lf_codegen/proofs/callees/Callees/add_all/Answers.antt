@@ -13,7 +13,8 @@ loop-function-preserved c texts knows =
     let before = c.loop-function.invariant texts knows in
     let known = map plain_function (take c.loop-function.function-index c.args.functions.now) in
     let f = plain_function c.function-item.result in
-    let step = map_item plain_function c.args.functions.now c.loop-function.function-index c.function-item.result c.loop-function-test.true c.function-item.is in (
+    let step = map_item plain_function c.args.functions.now c.loop-function.function-index c.function-item.result c.loop-function-test.true
+    c.function-item.is in (
       subst (Knows _ texts) step (c.in_ok-add.ensures texts known before.0),
       c.note.ensures
           ∙ ap (λ k. earliest c.loop-function.first.refusal (refusals_at k f.name)) (c.duplicate.ensures texts known before.0)
@@ -24,5 +25,6 @@ loop-function-preserved c texts knows =
 
 pub returns : goal.returns
 returns c texts knows =
-    subst (λ l. Knows c.loop-function.self texts (map plain_function l) × (c.loop-function.first.refusal ≡ earliest c.args.first.now.refusal (names_refusals texts [] (map plain_function l))))
+    subst (λ l. Knows c.loop-function.self texts (map plain_function l)
+    × (c.loop-function.first.refusal ≡ earliest c.args.first.now.refusal (names_refusals texts [] (map plain_function l))))
     (take_all c.loop-function.function-index c.args.functions.now (grind arith)) (c.loop-function.invariant texts knows)

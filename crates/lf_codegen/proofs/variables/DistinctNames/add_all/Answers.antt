@@ -6,4 +6,5 @@ use Rattle.lf_codegen.proofs.variables.DistinctNames.add_all.Goals as goal
 
 pub loop-name-preserved : goal.loop-name-preserved
 loop-name-preserved c names once =
-    subst (AreOnce _) (sym (fold_more with_new_name names c.args.more.now c.loop-name.name-index _ c.loop-name-test.true)) (c.in_ok-add.ensures _ (c.loop-name.invariant names once))
+    subst (AreOnce _) (sym (fold_more with_new_name names c.args.more.now c.loop-name.name-index _ c.loop-name-test.true))
+    (c.in_ok-add.ensures _ (c.loop-name.invariant names once))

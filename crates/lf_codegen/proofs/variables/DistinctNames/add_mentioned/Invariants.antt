@@ -6,4 +6,5 @@ use Rattle.lf_codegen.proofs.variables.DistinctNames.add_mentioned.Given as goal
 
 abbrev pub invariant-loop-mention : goal.invariant-loop-mention
 invariant-loop-mention l =
-    (names : List Name) → AreOnce l.fn.self names → AreOnce l.self (fold with_new_name names (flat_map variable_of (take l.mention-index l.mentions)))
+    (names : List Name) → AreOnce l.fn.self names
+    → AreOnce l.self (fold with_new_name names (flat_map variable_of (take l.mention-index l.mentions)))
