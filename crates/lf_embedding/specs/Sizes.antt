@@ -4,5 +4,5 @@ use Rattle.lf_heap.specs.Heaps.{Domain}
 
 -- so many slots, and room for at least so many more
 pub record HasSlots (heap : Domain) (slots room : ℕ) : Type 0 where
-  pub slots : length heap.state.slots ≡ slots
-  pub room : room ≤ heap.spare
+  pub as_many : length heap.state.slots ≡ slots
+  pub spare : room ≤ heap.spare
