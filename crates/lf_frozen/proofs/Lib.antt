@@ -1,4 +1,4 @@
-pub mod NameCompare
+pub mod IdOrder
 pub mod Members
 pub mod RisenRows
 pub mod NextRows

@@ -6,33 +6,33 @@ use Rattle.std.specs.Option.{option_map_or}
 use Rattle.lf_base.specs.declared.ids.ObjId.{ObjId}
 use Rattle.lf_base.specs.Names.{name_below, same_name}
 use Rattle.lf_base.specs.Sets.{InOrder}
-use Rattle.lf_frozen.specs.declared.entry.Entry.{Entry}
+use Rattle.lf_frozen.specs.declared.entry.RowEntry.{RowEntry}
 use Rattle.lf_frozen.specs.declared.row.FrozenRow.{FrozenRow}
 use Rattle.lf_frozen.specs.FrozenRows.{with_all_frozen}
 
 -- the batch that has an entry's row, in a table of that batch
-abbrev pub batch_of : List FrozenRow → Entry → List FrozenRow
+abbrev pub batch_of : List FrozenRow → RowEntry → List FrozenRow
 batch_of own entry = option_map_or arc_value entry.batch own
 
 -- the row that the entry leads to
-abbrev pub row_of : List FrozenRow → Entry → FrozenRow
-row_of own entry = get_or (batch_of own entry) entry.at (record { id = entry.name; fields = [] })
+abbrev pub row_behind : List FrozenRow → RowEntry → FrozenRow
+row_behind own entry = get_or (batch_of own entry) entry.at (record { id = entry.name; fields = [] })
 
 -- the entry leads to a row of its name
-abbrev pub Leads : List FrozenRow → Entry → Type 0
-Leads own entry = (entry.at < length (batch_of own entry)) × ((row_of own entry).id ≡ entry.name)
+abbrev pub LeadsToRow : List FrozenRow → RowEntry → Type 0
+LeadsToRow own entry = (entry.at < length (batch_of own entry)) × ((row_behind own entry).id ≡ entry.name)
 
 -- the rows of all tables, one table after the other
-abbrev pub rows_of : List (List FrozenRow) → List FrozenRow
-rows_of tables = flat_map (λ rows. rows) tables
+abbrev pub rows_of_tables : List (List FrozenRow) → List FrozenRow
+rows_of_tables tables = flat_map (λ rows. rows) tables
 
 -- no name is there twice
 abbrev pub Apart : List FrozenRow → Type 0
 Apart rows = (o : ObjId) → count_by (λ row. same_name row.id o) rows ≤ 1
 
 -- the rows by rising name
-abbrev pub by_name : List FrozenRow → List FrozenRow
-by_name rows = with_all_frozen rows []
+abbrev pub put_by_name : List FrozenRow → List FrozenRow
+put_by_name rows = with_all_frozen rows []
 
 -- the row of the lesser name, where both are there
 abbrev pub lesser_row : Option FrozenRow → Option FrozenRow → Option FrozenRow
@@ -45,14 +45,15 @@ abbrev pub is_passed : ObjId → Bool → ObjId → Bool
 is_passed o equal name = if equal then not (name_below o name) else name_below name o
 
 -- the entries before that place are passed by a search, and those from it on aren't
-abbrev pub IsPlace : ObjId → Bool → List Entry → ℕ → Type 0
-IsPlace o equal entries at = IsPartitionPoint (λ entry. is_passed o equal entry.name ≡ true) (λ entry. is_passed o equal entry.name ≡ false) entries at
+abbrev pub IsPlace : ObjId → Bool → List RowEntry → ℕ → Type 0
+IsPlace o equal entries at =
+    IsPartitionPoint (λ entry. is_passed o equal entry.name ≡ true) (λ entry. is_passed o equal entry.name ≡ false) entries at
 
 -- where the first entry stands whose name is above that one, where one is given
-abbrev pub IsPlaceAfter : Option ObjId → List Entry → ℕ → Type 0
+abbrev pub IsPlaceAfter : Option ObjId → List RowEntry → ℕ → Type 0
 IsPlaceAfter None entries at = at ≡ 0
 IsPlaceAfter (Some after) entries at = IsPlace after true entries at
 
 -- the entries stand by rising name
-abbrev pub EntriesRise : List Entry → Type 0
+abbrev pub EntriesRise : List RowEntry → Type 0
 EntriesRise entries = InOrder name_below (map (λ entry. entry.name) entries)

@@ -18,12 +18,12 @@ abbrev pub RiseByName : List FrozenRow → Type 0
 RiseByName rows = InOrder name_below (frozen_names rows)
 
 -- no two of the rows have one name
-abbrev pub NamesApart : List FrozenRow → Type 0
-NamesApart rows = Differ same_name (frozen_names rows)
+abbrev pub FrozenNamesDiffer : List FrozenRow → Type 0
+FrozenNamesDiffer rows = Differ same_name (frozen_names rows)
 
 -- a row of this name is in the list
-abbrev pub has_frozen : List FrozenRow → ObjId → Bool
-has_frozen rows o = list_any (λ row. same_name row.id o) rows
+abbrev pub has_frozen_row : List FrozenRow → ObjId → Bool
+has_frozen_row rows o = list_any (λ row. same_name row.id o) rows
 
 -- the row of this name, if it is in the list
 abbrev pub frozen_at : List FrozenRow → ObjId → Option FrozenRow

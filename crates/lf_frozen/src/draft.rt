@@ -4,9 +4,9 @@ ghost use Rattle.std.specs.List.{All};
 ghost use Rattle.std.specs.Vec.{vec_capacity, vec_len};
 ghost use Rattle.lf_frozen.specs.declared.row.FrozenRow.{FrozenRow};
 ghost use Rattle.lf_frozen.specs.Drafts.{IsDraft};
-ghost use Rattle.lf_frozen.specs.Entries.{Apart, EntriesRise, Leads, row_of, rows_of};
+ghost use Rattle.lf_frozen.specs.Entries.{Apart, EntriesRise, LeadsToRow, row_behind, rows_of_tables};
 
-use crate::entry::{Entry, entries_of};
+use crate::entry::{RowEntry, entries_of};
 use crate::row::{FrozenRow, FrozenRows};
 use crate::table::Table;
 use lf_base::OutOfMemory;
@@ -18,13 +18,13 @@ use std::sync::Arc;
 #[derive(Drop)]
 pub(crate) struct Draft {
     tables: Vec<Table>,
-    entries: Arc<Vec<Entry>, Global>,
+    entries: Arc<Vec<RowEntry>, Global>,
 }
 
 impl Draft {
     // For a map of these tables with these rows, whose names are new and differ.
     pub(crate) fn of(tables: &Vec<Table>, rows: &[FrozenRow]) -> Result<Draft, OutOfMemory>
-        requires { Apart (rows.now ++ rows_of tables.now.items) }
+        requires { Apart (rows.now ++ rows_of_tables tables.now.items) }
         ensures { IfOk result (λ draft. IsDraft rows.now tables.now.items draft) }
     {
         let alloc = *tables.allocator();
@@ -40,10 +40,10 @@ impl Draft {
 
     // The tables, with that of the batch of these rows. It takes no memory.
     pub(crate) fn finish(self, batch: Arc<FrozenRows, Global>) -> Vec<Table>
-        requires leads { All (Leads (arc_value batch)) (arc_value self.entries).items }
+        requires leads { All (LeadsToRow (arc_value batch)) (arc_value self.entries).items }
         requires rising { EntriesRise (arc_value self.entries).items }
         requires room { vec_len self.tables < vec_capacity self.tables }
-        ensures { result.items ≡ self.tables.items ++ map (row_of (arc_value batch)) (arc_value self.entries).items ∷ [] }
+        ensures { result.items ≡ self.tables.items ++ map (row_behind (arc_value batch)) (arc_value self.entries).items ∷ [] }
     {
         let Draft {
             mut tables,
@@ -71,9 +71,10 @@ fn count_kept(tables: &Vec<Table>, added: usize) -> usize
 }
 
 // Adds the entries of all rows of the tables.
-fn collect(tables: &[Table], entries: &mut Vec<Entry>) -> Result<(), OutOfMemory>
-    ensures rows { (own : List FrozenRow) → OnOk result (map (row_of own) entries.new.items ≡ map (row_of own) entries.old.items ++ rows_of tables.now) }
-    ensures leads { (own : List FrozenRow) → All (Leads own) entries.old.items → OnOk result (All (Leads own) entries.new.items) }
+fn collect(tables: &[Table], entries: &mut Vec<RowEntry>) -> Result<(), OutOfMemory>
+    ensures rows { (own : List FrozenRow)
+        → OnOk result (map (row_behind own) entries.new.items ≡ map (row_behind own) entries.old.items ++ rows_of_tables tables.now) }
+    ensures leads { (own : List FrozenRow) → All (LeadsToRow own) entries.old.items → OnOk result (All (LeadsToRow own) entries.new.items) }
 {
     for table in tables {
         table.add_to(entries)?;

@@ -7,7 +7,8 @@ ghost use Rattle.lf_base.specs.FreezeResult.{insert_rows};
 ghost use Rattle.lf_base.specs.Names.{name_below};
 ghost use Rattle.lf_base.specs.Sets.{Member};
 ghost use Rattle.lf_frozen.specs.declared.row.FrozenRow.{FrozenRow};
-ghost use Rattle.lf_frozen.specs.FrozenRows.{NamesApart, RiseByName, as_row, comes_after, frozen_at, has_frozen, next_frozen, with_all_frozen};
+ghost use Rattle.lf_frozen.specs.FrozenRows.{FrozenNamesDiffer, RiseByName, as_row, comes_after, frozen_at, has_frozen_row};
+ghost use Rattle.lf_frozen.specs.FrozenRows.{next_frozen, with_all_frozen};
 
 /// What is found is in the list and has the name, and each row of a list that rises is
 /// found. Nothing is found exactly where the name isn't there.
@@ -16,7 +17,7 @@ pub fn frozen_rows_are_found()
         → Member row rows × (row.id ≡ o) }
     ensures each { (rows : List FrozenRow) (row : FrozenRow) → RiseByName rows → Member row rows
         → frozen_at rows row.id ≡ Some row }
-    ensures none { (rows : List FrozenRow) (o : ObjId) → (frozen_at rows o ≡ None) ↔ (has_frozen rows o ≡ false) }
+    ensures none { (rows : List FrozenRow) (o : ObjId) → (frozen_at rows o ≡ None) ↔ (has_frozen_row rows o ≡ false) }
 {}
 
 /// What rows are there after rows were added, and that their list rises. As rows of a
@@ -25,9 +26,9 @@ pub fn frozen_rows_are_added()
     ensures rows { (more rows : List FrozenRow) (row : FrozenRow)
         → Member row (with_all_frozen more rows) ↔ (Member row more ⊎ Member row rows) }
     ensures names { (more rows : List FrozenRow) (o : ObjId)
-        → has_frozen (with_all_frozen more rows) o ≡ (has_frozen more o || has_frozen rows o) }
-    ensures rising { (more rows : List FrozenRow) → NamesApart more
-        → ((row : FrozenRow) → Member row more → has_frozen rows row.id ≡ false) → RiseByName rows
+        → has_frozen_row (with_all_frozen more rows) o ≡ (has_frozen_row more o || has_frozen_row rows o) }
+    ensures rising { (more rows : List FrozenRow) → FrozenNamesDiffer more
+        → ((row : FrozenRow) → Member row more → has_frozen_row rows row.id ≡ false) → RiseByName rows
         → RiseByName (with_all_frozen more rows) }
     ensures as_state { (more rows : List FrozenRow)
         → map as_row (with_all_frozen more rows) ≡ insert_rows (map as_row more) (map as_row rows) }

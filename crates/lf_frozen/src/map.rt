@@ -3,7 +3,7 @@ ghost use Rattle.std.specs.Option.{option_copied};
 ghost use Rattle.lf_base.specs.Sets.{Member};
 ghost use Rattle.lf_frozen.specs.declared.row.FrozenRow.{FrozenRow};
 ghost use Rattle.lf_frozen.specs.Entries.{lesser_row};
-ghost use Rattle.lf_frozen.specs.FrozenRows.{NamesApart, RiseByName, frozen_at, has_frozen, next_frozen, with_all_frozen};
+ghost use Rattle.lf_frozen.specs.FrozenRows.{FrozenNamesDiffer, RiseByName, frozen_at, has_frozen_row, next_frozen, with_all_frozen};
 
 use crate::draft::{Draft, share_first};
 use crate::row::{FrozenRow, FrozenRows};
@@ -27,13 +27,13 @@ pub struct FrozenMap {
 impl Model for FrozenMap {
     ghost use Rattle.std.specs.Prelude.{List};
     ghost use Rattle.lf_frozen.specs.declared.row.FrozenRow.{FrozenRow};
-    ghost use Rattle.lf_frozen.specs.Entries.{Apart, by_name, rows_of};
+    ghost use Rattle.lf_frozen.specs.Entries.{Apart, put_by_name, rows_of_tables};
 
     ghost Value = { List FrozenRow };
 
-    ghost view = { λ kept. by_name (rows_of kept.tables.items) };
+    ghost view = { λ kept. put_by_name (rows_of_tables kept.tables.items) };
 
-    ghost invariant = { λ kept. Apart (rows_of kept.tables.items) };
+    ghost invariant = { λ kept. Apart (rows_of_tables kept.tables.items) };
 }
 
 impl FrozenMap {
@@ -91,8 +91,8 @@ impl FrozenMap {
     /// Tables are joined as they grow, so that so many rows cost, averaged over the calls that
     /// led to a map, as many steps as the logarithm of its length for each.
     pub fn with(&self, rows: FrozenRows) -> Result<FrozenMap, (FrozenRows, OutOfMemory)>
-        requires apart { NamesApart rows }
-        requires new { (row : FrozenRow) → Member row rows → has_frozen self.now row.id ≡ false }
+        requires apart { FrozenNamesDiffer rows }
+        requires new { (row : FrozenRow) → Member row rows → has_frozen_row self.now row.id ≡ false }
         ensures added { IfOk result (λ map. map ≡ with_all_frozen rows self.now) }
         ensures handed_back { IfErr result (λ e. e.0 ≡ rows) }
         ensures rising { RiseByName self.now }

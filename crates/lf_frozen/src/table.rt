@@ -3,10 +3,10 @@ ghost use Rattle.std.specs.Arc.{arc_value};
 ghost use Rattle.std.specs.List.{All};
 ghost use Rattle.std.specs.Option.{option_copied};
 ghost use Rattle.lf_frozen.specs.declared.row.FrozenRow.{FrozenRow};
-ghost use Rattle.lf_frozen.specs.Entries.{EntriesRise, IsPlace, IsPlaceAfter, Leads, is_passed, row_of};
+ghost use Rattle.lf_frozen.specs.Entries.{EntriesRise, IsPlace, IsPlaceAfter, LeadsToRow, is_passed, row_behind};
 ghost use Rattle.lf_frozen.specs.FrozenRows.{RiseByName, frozen_at, next_frozen};
 
-use crate::entry::Entry;
+use crate::entry::RowEntry;
 use crate::row::{FrozenRow, FrozenRows};
 use lf_base::{ObjId, OutOfMemory};
 use std::alloc::Global;
@@ -17,7 +17,7 @@ use std::sync::Arc;
 // table's own batch, and to those of older ones.
 #[derive(Drop)]
 pub(crate) struct Table {
-    entries: Arc<Vec<Entry>, Global>,
+    entries: Arc<Vec<RowEntry>, Global>,
     batch: Arc<FrozenRows, Global>,
 }
 
@@ -26,13 +26,13 @@ impl Model for Table {
     ghost use Rattle.std.specs.Arc.{arc_value};
     ghost use Rattle.std.specs.List.{All};
     ghost use Rattle.lf_frozen.specs.declared.row.FrozenRow.{FrozenRow};
-    ghost use Rattle.lf_frozen.specs.Entries.{EntriesRise, Leads, row_of};
+    ghost use Rattle.lf_frozen.specs.Entries.{EntriesRise, LeadsToRow, row_behind};
 
     ghost Value = { List FrozenRow };
 
-    ghost view = { λ table. map (row_of (arc_value table.batch)) (arc_value table.entries).items };
+    ghost view = { λ table. map (row_behind (arc_value table.batch)) (arc_value table.entries).items };
 
-    ghost invariant = { λ table. All (Leads (arc_value table.batch)) (arc_value table.entries).items
+    ghost invariant = { λ table. All (LeadsToRow (arc_value table.batch)) (arc_value table.entries).items
         × EntriesRise (arc_value table.entries).items };
 }
 
@@ -49,20 +49,20 @@ fn passes(o: ObjId, equal: bool, name: ObjId) -> bool
 
 // Where the first entry stands that a search for a name doesn't pass: it passes lesser names and,
 // if it is told to, an equal one.
-fn place(entries: &[Entry], o: ObjId, equal: bool) -> usize
+fn place(entries: &[RowEntry], o: ObjId, equal: bool) -> usize
     requires { EntriesRise entries.now }
     ensures within { result ≤ length entries.now }
     ensures place { IsPlace o equal entries.now result }
 {
     entries.partition_point(
-        move |entry: &Entry| -> bool
+        move |entry: &RowEntry| -> bool
             ensures { result ≡ is_passed o equal entry.now.name }
         { passes(o, equal, entry.name) },
     )
 }
 
 // Where the first entry stands whose name is above the given one.
-fn place_after(entries: &[Entry], after: Option<ObjId>) -> usize
+fn place_after(entries: &[RowEntry], after: Option<ObjId>) -> usize
     requires { EntriesRise entries.now }
     ensures within { result ≤ length entries.now }
     ensures place { IsPlaceAfter after entries.now result }
@@ -75,10 +75,10 @@ fn place_after(entries: &[Entry], after: Option<ObjId>) -> usize
 
 impl Table {
     // The table of a batch, whose entries lead to its rows and to older ones.
-    pub(crate) fn of(entries: Arc<Vec<Entry>, Global>, batch: Arc<FrozenRows, Global>) -> Table
-        requires leads { All (Leads (arc_value batch)) (arc_value entries).items }
+    pub(crate) fn of(entries: Arc<Vec<RowEntry>, Global>, batch: Arc<FrozenRows, Global>) -> Table
+        requires leads { All (LeadsToRow (arc_value batch)) (arc_value entries).items }
         requires rising { EntriesRise (arc_value entries).items }
-        ensures { result ≡ map (row_of (arc_value batch)) (arc_value entries).items }
+        ensures { result ≡ map (row_behind (arc_value batch)) (arc_value entries).items }
     {
         Table { entries, batch }
     }
@@ -124,9 +124,10 @@ impl Table {
     }
 
     // Adds the entries of the rows to those of a further table.
-    pub(crate) fn add_to(&self, entries: &mut Vec<Entry>) -> Result<(), OutOfMemory>
-        ensures rows { (own : List FrozenRow) → OnOk result (map (row_of own) entries.new.items ≡ map (row_of own) entries.old.items ++ self.now) }
-        ensures leads { (own : List FrozenRow) → All (Leads own) entries.old.items → OnOk result (All (Leads own) entries.new.items) }
+    pub(crate) fn add_to(&self, entries: &mut Vec<RowEntry>) -> Result<(), OutOfMemory>
+        ensures rows { (own : List FrozenRow)
+            → OnOk result (map (row_behind own) entries.new.items ≡ map (row_behind own) entries.old.items ++ self.now) }
+        ensures leads { (own : List FrozenRow) → All (LeadsToRow own) entries.old.items → OnOk result (All (LeadsToRow own) entries.new.items) }
     {
         for entry in self.entries.iter() {
             entries.push(entry.moved(&self.batch)?)?;

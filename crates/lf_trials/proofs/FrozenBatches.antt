@@ -9,7 +9,7 @@ use Rattle.lf_base.proofs.ListLemmas.Sublists.{differ_push}
 use Rattle.lf_base.proofs.ListLemmas.Tests.{any_none}
 use Rattle.lf_base.proofs.NameLemmas.SameNames.{same_name_is}
 use Rattle.lf_frozen.specs.declared.row.FrozenRow.{FrozenRow}
-use Rattle.lf_frozen.specs.FrozenRows.{NamesApart, frozen_names, has_frozen, with_all_frozen}
+use Rattle.lf_frozen.specs.FrozenRows.{FrozenNamesDiffer, frozen_names, has_frozen_row, with_all_frozen}
 use Rattle.lf_frozen.proofs.RowLaws.{added_row}
 use Rattle.lf_trials.specs.FrozenBatches.{AreNumbered, HaveLesserBirths, HaveLesserNumbers}
 
@@ -21,7 +21,7 @@ other_name : (a b : ObjId) → (a ≡ b → ⊥) → same_name a b ≡ false
 other_name a b differ = false_from_ne_true (same_name a b) (λ e. differ (same_name_is a b e))
 
 -- a further row of a greater birth
-pub apart_push : (rows : List FrozenRow) (row : FrozenRow) (birth : ℕ) → HaveLesserBirths birth rows → row.id.birth ≡ birth → NamesApart rows → NamesApart (rows ++ row ∷ [])
+pub apart_push : (rows : List FrozenRow) (row : FrozenRow) (birth : ℕ) → HaveLesserBirths birth rows → row.id.birth ≡ birth → FrozenNamesDiffer rows → FrozenNamesDiffer (rows ++ row ∷ [])
 apart_push rows row birth lesser is apart =
     subst (λ names. Differ same_name names) (sym (names_push rows row))
     (differ_push same_name (frozen_names rows) row.id apart
@@ -42,7 +42,7 @@ numbered_push rows row seq numbered is x m = elim (Member_of_append x rows (row 
 ]
 
 -- a batch of a greater number is new
-pub batch_is_new : (more rows : List FrozenRow) (seq : ℕ) → AreNumbered seq more → HaveLesserNumbers seq rows → (row : FrozenRow) → Member row more → has_frozen rows row.id ≡ false
+pub batch_is_new : (more rows : List FrozenRow) (seq : ℕ) → AreNumbered seq more → HaveLesserNumbers seq rows → (row : FrozenRow) → Member row more → has_frozen_row rows row.id ≡ false
 batch_is_new more rows seq numbered lesser row m =
     any_none (λ (x : FrozenRow). same_name x.id row.id) rows
     (λ x k. other_name x.id row.id (λ e. omega (arith, numbered row m, lesser x k, ap (λ (o : ObjId). o.seq) e)))

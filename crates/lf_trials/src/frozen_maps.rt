@@ -1,7 +1,7 @@
 //! Maps of frozen rows that many calls made, beside the plain list of their names.
 
 ghost use Rattle.std.specs.Prelude.{IfOk};
-ghost use Rattle.lf_frozen.specs.FrozenRows.{NamesApart};
+ghost use Rattle.lf_frozen.specs.FrozenRows.{FrozenNamesDiffer};
 ghost use Rattle.lf_trials.specs.FrozenBatches.{AreNumbered};
 
 use lf_base::{Fields, Key, ObjId, OutOfMemory, Value};
@@ -20,7 +20,7 @@ fn fields_of(alloc: Global, id: ObjId) -> Result<Fields, OutOfMemory> {
 
 /// Rows of one field: one for each birth below the given number, all with one number.
 pub fn batch(alloc: Global, births: u32, seq: u32) -> Result<FrozenRows, OutOfMemory>
-    ensures apart { IfOk result NamesApart }
+    ensures apart { IfOk result FrozenNamesDiffer }
     ensures numbered { IfOk result (AreNumbered seq) }
 {
     let mut rows = FrozenRows::new(alloc);

@@ -1,6 +1,6 @@
 use Rattle.std.proofs.Common.{ap, drop, map, sym, ◌+◌, ◌++◌, ◌∙◌}
 use Rattle.std.proofs.lemmas.List.{append_assoc}
-use Rattle.lf_frozen.specs.Entries.{row_of, rows_of}
+use Rattle.lf_frozen.specs.Entries.{row_behind, rows_of_tables}
 use Rattle.lf_frozen.proofs.TableLists.{rows_left}
 use Rattle.lf_frozen.proofs.draft.collect.Goals as goal
 
@@ -10,9 +10,9 @@ loop-table-preserved c =
     let i = c.loop-table.table-index in
     record {
       rows = λ own.
-          let before = map (row_of own) c.loop-table.entries.items in
-          ap (λ l. l ++ rows_of (drop (i + 1) tables)) (c.in_ok-add_to.ensures.rows own)
-          ∙ append_assoc before c.table-item.result (rows_of (drop (i + 1) tables))
+          let before = map (row_behind own) c.loop-table.entries.items in
+          ap (λ l. l ++ rows_of_tables (drop (i + 1) tables)) (c.in_ok-add_to.ensures.rows own)
+          ∙ append_assoc before c.table-item.result (rows_of_tables (drop (i + 1) tables))
           ∙ ap (λ l. before ++ l) (sym (rows_left tables i c.table-item.result c.loop-table-test.true c.table-item.is))
           ∙ c.loop-table.invariant.rows own;
       leads = λ own h. c.in_ok-add_to.ensures.leads own (c.loop-table.invariant.leads own h);

@@ -1,5 +1,5 @@
 use Rattle.std.proofs.Common.{refl, subst, sym, ◌+◌}
-use Rattle.lf_frozen.specs.FrozenRows.{NamesApart}
+use Rattle.lf_frozen.specs.FrozenRows.{FrozenNamesDiffer}
 use Rattle.lf_trials.specs.FrozenBatches.{AreNumbered, HaveLesserBirths}
 use Rattle.lf_trials.proofs.FrozenBatches.{apart_push, births_push, numbered_push}
 use Rattle.lf_trials.proofs.frozen_maps.batch.Goals as goal
@@ -10,7 +10,7 @@ loop-birth-preserved c =
     let birth = c.loop-birth.birth in
     let before = c.loop-birth.invariant in
     record {
-      apart = subst NamesApart (sym c.in_default.ensures.ok) (apart_push rows _ birth before.births refl before.apart);
+      apart = subst FrozenNamesDiffer (sym c.in_default.ensures.ok) (apart_push rows _ birth before.births refl before.apart);
       births = subst (HaveLesserBirths (birth + 1)) (sym c.in_default.ensures.ok) (births_push rows _ birth before.births refl);
       numbered = subst (AreNumbered c.args.seq) (sym c.in_default.ensures.ok) (numbered_push rows _ c.args.seq before.numbered refl);
     }

@@ -1,7 +1,7 @@
 use Rattle.std.proofs.Common.{List, Some, ap, false, length, subst, sym, get_or, ◌<◌, ◌≤◌, ◌∙◌, ◌≡◌}
 use Rattle.std.specs.Arc.{arc_value}
 use Rattle.lf_frozen.specs.declared.row.FrozenRow.{FrozenRow}
-use Rattle.lf_frozen.specs.Entries.{IsPlace, row_of}
+use Rattle.lf_frozen.specs.Entries.{IsPlace, row_behind}
 use Rattle.lf_frozen.specs.FrozenRows.{frozen_at}
 use Rattle.lf_frozen.proofs.Searches.{found_here, none_here, other_here}
 use Rattle.lf_frozen.proofs.table.Table.get.Goals as goal
@@ -13,7 +13,7 @@ returns-in-Some c =
     let entries = (arc_value c.self.inside.entries).items in
     let searched : c.deref-2.result.now ≡ entries = c.deref-2.ensures.value ∙ ap (λ v. v.items) c.deref.ensures in
     let looked : c.deref-4.result.now ≡ entries = c.deref-4.ensures.value ∙ ap (λ v. v.items) c.deref-3.ensures in
-    ap Some (c.row.ensures ∙ ap (λ (rows : List FrozenRow). row_of rows c.in-Some.entry.now) c.deref-in-Some.ensures)
+    ap Some (c.row.ensures ∙ ap (λ (rows : List FrozenRow). row_behind rows c.in-Some.entry.now) c.deref-in-Some.ensures)
     ∙ found_here own entries c.self.invariant.0 c.self.invariant.1 c.args.o c.place-at.result
     (subst (λ l. c.place-at.result ≤ length l) searched c.place-at.ensures.within)
     (subst (λ l. IsPlace c.args.o false l c.place-at.result) searched c.place-at.ensures.place)
