@@ -1,16 +1,19 @@
 //! Measures the flat store: `lf_bench N` makes N rows, links each to the one before,
 //! gives all to a region, walks over them and drops them; then it gives one row N fields
-//! and walks over these. It writes the number of rows or fields of each step to standard
-//! output, and the time so far to standard error.
+//! and walks over these. Then it makes a map of N frozen rows by one call, and one by a
+//! thousand calls, and looks up as many names in each, in no order. It writes the number of rows
+//! or fields of each step to standard output, and the time so far to standard error.
 //!
-//! It stands on `lf_trials`, by whose calls it works a store of `lf_graph`, so that it needs
-//! no proof of its own about rows.
+//! It stands on `lf_trials`, by whose calls it works a store of `lf_graph` and makes maps of
+//! `lf_frozen`, so that it needs no proof of its own about rows.
 #![tactic(auto)]
 
 ghost use Rattle.std.specs.Prelude.{◌≡◌, ◌<◌};
 
 use lf_base::{Key, ObjId, OutOfMemory, Owner, Steps, Value};
+use lf_frozen::FrozenMap;
 use lf_graph::{FlatStore, Store};
+use lf_trials::frozen_maps::made;
 use lf_trials::trials::{
     next_field_of, next_of, offer_field, offer_owner, offer_ref, offer_row, withdraw_row,
 };
@@ -24,6 +27,9 @@ use std::{env, io};
 const REGION: Owner = Owner::In(ObjId { birth: 0, seq: 0 });
 
 const LINK: Key = Key::Int(0);
+
+// By how many calls the second map is made, where it has as many rows.
+const MAP_CALLS: u32 = 1_000;
 
 // The row of a number.
 const fn row(seq: u32) -> ObjId {
@@ -165,7 +171,43 @@ fn measure_fields<S: Store, L: Ledger, R: Print + Eprint + Clock + AllocGlobal>(
     )
 }
 
-// Measures a store with so many rows, and with a row of so many fields.
+// The number after this one in a row that goes through all numbers in no order.
+fn scatter(number: u32) -> u32 {
+    number.wrapping_mul(1_664_525).wrapping_add(1_013_904_223)
+}
+
+// Looks up as many names as a map has rows, in no order, and counts what is found.
+fn look(map: &FrozenMap, births: u32, calls: u32) -> u32 {
+    let mut found: u32 = 0;
+    let mut number = 0;
+    for _ in 0..births.saturating_mul(calls) {
+        number = scatter(number);
+        let birth = (number >> 12).checked_rem(births).unwrap_or(0);
+        number = scatter(number);
+        let seq = (number >> 12).checked_rem(calls).unwrap_or(0);
+        if map.get(ObjId { birth, seq }).is_some() {
+            found = found.saturating_add(1);
+        }
+    }
+    found
+}
+
+// Makes a map of so many rows by so many calls, and looks up as many names.
+fn measure_map<R: Print + Eprint + Clock + AllocGlobal>(
+    rt: &R,
+    count: u32,
+    calls: u32,
+    start: &Instant,
+) -> io::Result<()> {
+    let births = count.checked_div(calls).unwrap_or(0);
+    let Ok(map) = made(rt.alloc(), births, calls) else {
+        return report(rt, "no memory", 0, start);
+    };
+    report(rt, "mapped", births.saturating_mul(calls), start)?;
+    report(rt, "found", look(&map, births, calls), start)
+}
+
+// Measures a store with so many rows, and with a row of so many fields, and maps of so many rows.
 fn measure<S: Store, L: Ledger, R: Print + Eprint + Clock + AllocGlobal>(
     rt: &R,
     count: u32,
@@ -181,7 +223,9 @@ fn measure<S: Store, L: Ledger, R: Print + Eprint + Clock + AllocGlobal>(
         return report(rt, "no memory", 0, &start);
     };
     measure_rows(rt, &mut store, count, &start, &mut steps)?;
-    measure_fields(rt, &mut store, count, &start, &mut steps)
+    measure_fields(rt, &mut store, count, &start, &mut steps)?;
+    measure_map(rt, count, 1, &start)?;
+    measure_map(rt, count, count.min(MAP_CALLS), &start)
 }
 
 // The number of rows: the first argument.
