@@ -1,19 +1,23 @@
 //! Measures the flat store: `lf_bench N` makes N rows, links each to the one before,
 //! gives all to a region, walks over them and drops them; then it gives one row N fields
 //! and walks over these. Then it makes a map of N frozen rows by one call, and one by a
-//! thousand calls, and looks up as many names in each, in no order. It writes the number of rows
-//! or fields of each step to standard output, and the time so far to standard error.
+//! thousand calls, and looks up as many names in each, in no order. Then a heap makes a chain
+//! of N objects, moves it into a region and lets that go, and does the same with one object of
+//! N fields. It writes the number of rows or fields of each step to standard output, and the
+//! time so far to standard error.
 //!
-//! It stands on `lf_trials`, by whose calls it works a store of `lf_graph` and makes maps of
-//! `lf_frozen`, so that it needs no proof of its own about rows.
+//! It stands on `lf_trials`, by whose calls it works a store of `lf_graph`, makes maps of
+//! `lf_frozen` and calls a heap, so that it needs no proof of its own about rows.
 #![tactic(auto)]
 
 ghost use Rattle.std.specs.Prelude.{◌≡◌, ◌<◌};
 
-use lf_base::{Key, ObjId, OutOfMemory, Owner, Steps, Value};
+use lf_base::{HeapFail, Key, ObjId, OutOfMemory, Owner, Steps, Value};
 use lf_frozen::FrozenMap;
 use lf_graph::{FlatStore, Store};
+use lf_heap::Heap;
 use lf_trials::frozen_maps::made;
+use lf_trials::heap_calls::{HeapCall, heap_after, make_call};
 use lf_trials::trials::{
     next_field_of, next_of, offer_field, offer_owner, offer_ref, offer_row, withdraw_row,
 };
@@ -27,6 +31,15 @@ use std::{env, io};
 const REGION: Owner = Owner::In(ObjId { birth: 0, seq: 0 });
 
 const LINK: Key = Key::Int(0);
+
+// The variables of the heap: a region, the last object of a chain, and the next one.
+const HOME: usize = 0;
+
+const HEAD: usize = 1;
+
+const NEXT: usize = 2;
+
+const VARIABLES: usize = 3;
 
 // By how many calls the second map is made, where it has as many rows.
 const MAP_CALLS: u32 = 1_000;
@@ -207,6 +220,110 @@ fn measure_map<R: Print + Eprint + Clock + AllocGlobal>(
     report(rt, "found", look(&map, births, calls), start)
 }
 
+// Calls made one after the other.
+fn make_calls<S: Store, L: Ledger>(
+    heap: &mut Heap<S>,
+    calls: &[HeapCall],
+    steps: &mut Steps<L>,
+) -> Result<(), HeapFail> {
+    for call in calls {
+        make_call(heap, *call, steps)?;
+    }
+    Ok(())
+}
+
+// Makes so many local objects, each with the one before as a field. The last one is in
+// the variable HEAD.
+fn chain_objects<S: Store, L: Ledger>(
+    heap: &mut Heap<S>,
+    count: u32,
+    steps: &mut Steps<L>,
+) -> Result<(), HeapFail> {
+    make_calls(heap, &[HeapCall::Object, HeapCall::Put(HEAD)], steps)?;
+    for _ in 1..count {
+        let calls = [
+            HeapCall::Object,
+            HeapCall::Put(NEXT),
+            HeapCall::Load(NEXT),
+            HeapCall::Number(0),
+            HeapCall::Lift(HEAD),
+            HeapCall::Write,
+            HeapCall::Lift(NEXT),
+            HeapCall::Put(HEAD),
+        ];
+        make_calls(heap, &calls, steps)?;
+    }
+    Ok(())
+}
+
+// Gives one local object so many fields.
+fn widen_object<S: Store, L: Ledger>(
+    heap: &mut Heap<S>,
+    count: u32,
+    steps: &mut Steps<L>,
+) -> Result<(), HeapFail> {
+    make_calls(heap, &[HeapCall::Object, HeapCall::Put(HEAD)], steps)?;
+    for key in 0..count {
+        let key = i64::from(key);
+        let calls = [
+            HeapCall::Load(HEAD),
+            HeapCall::Number(key),
+            HeapCall::Number(key),
+            HeapCall::Write,
+        ];
+        make_calls(heap, &calls, steps)?;
+    }
+    Ok(())
+}
+
+// Writes the object of HEAD to a field of the region.
+const MOVE: [HeapCall; 4] = [
+    HeapCall::Load(HOME),
+    HeapCall::Number(0),
+    HeapCall::Load(HEAD),
+    HeapCall::Write,
+];
+
+// Lets the region go.
+const LEAVE: [HeapCall; 2] = [HeapCall::Unset(HEAD), HeapCall::Unset(HOME)];
+
+// What a step came to: its number, or 0 where it was refused.
+fn done(count: u32, step: Result<(), HeapFail>) -> u32 {
+    match step {
+        Ok(()) => count,
+        Err(_refused) => 0,
+    }
+}
+
+// Measures a heap: a chain of objects and a wide object that move into a region and go
+// with it.
+fn measure_heap<S: Store, L: Ledger, R: Print + Eprint + Clock + AllocGlobal>(
+    rt: &R,
+    count: u32,
+    start: &Instant,
+    steps: &mut Steps<L>,
+) -> io::Result<()> {
+    let region = [HeapCall::Region, HeapCall::Put(HOME)];
+    let Ok(after) = heap_after::<S, L>(rt.alloc(), VARIABLES, &region, steps) else {
+        return report(rt, "no memory", 0, start);
+    };
+    let mut heap = after.heap;
+    let chained = chain_objects(&mut heap, count, steps);
+    report(rt, "chained", done(count, chained), start)?;
+    let moved = make_calls(&mut heap, &MOVE, steps);
+    report(rt, "moved", done(count, moved), start)?;
+    let left = make_calls(&mut heap, &LEAVE, steps);
+    report(rt, "gone", done(count, left), start)?;
+    let again = make_calls(&mut heap, &region, steps);
+    report(rt, "regions", done(1, again), start)?;
+    let widened = widen_object(&mut heap, count, steps);
+    report(rt, "widened", done(count, widened), start)?;
+    let moved = make_calls(&mut heap, &MOVE, steps);
+    report(rt, "moved", done(count, moved), start)?;
+    let left = make_calls(&mut heap, &LEAVE, steps);
+    report(rt, "gone", done(count, left), start)
+}
+
 // Measures a store with so many rows, and with a row of so many fields, and maps of so many rows.
 fn measure<S: Store, L: Ledger, R: Print + Eprint + Clock + AllocGlobal>(
     rt: &R,
@@ -225,7 +342,8 @@ fn measure<S: Store, L: Ledger, R: Print + Eprint + Clock + AllocGlobal>(
     measure_rows(rt, &mut store, count, &start, &mut steps)?;
     measure_fields(rt, &mut store, count, &start, &mut steps)?;
     measure_map(rt, count, 1, &start)?;
-    measure_map(rt, count, count.min(MAP_CALLS), &start)
+    measure_map(rt, count, count.min(MAP_CALLS), &start)?;
+    measure_heap::<S, L, R>(rt, count, &start, &mut steps)
 }
 
 // The number of rows: the first argument.
