@@ -14,7 +14,7 @@ use Rattle.lf_regions.specs.declared.region.Region.{Region}
 use Rattle.lf_trials.specs.TwoRegions.{two_regions}
 use Rattle.lf_trials.proofs.TwoRegions.{home, local, local_domain, well_two}
 
-holds : (s : State) (o : ObjId) → from_near (owner_of s o) ≡ true → SlotMayHold s (Obj o)
+pub holds : (s : State) (o : ObjId) → from_near (owner_of s o) ≡ true → SlotMayHold s (Obj o)
 holds s o h = record { object_there = λ p m. elim m as (λ _. from_near (owner_of s p) ≡ true) [ inl e ↦ ap (λ q. from_near (owner_of s q)) (sym e) ∙ h | inr n ↦ absurd n ]; cown_numbered = λ c m b. absurd m }
 
 pub asked : (rows : List CountedRow) (regions : List Region) → CountsOf rows regions (object_result two_regions) → IsAsked rows regions (object_result two_regions) home (Obj local)

@@ -1,5 +1,6 @@
 pub mod TwoRegions
 pub mod SettledRows
 pub mod BarrierStates
+pub mod FrozenTarget
 pub mod LocalChains
 pub mod FrozenBatches
