@@ -60,6 +60,13 @@ impl<T> Listed<T> {
         }
     }
 
+    /// The list of a vector's items. It takes no memory.
+    pub fn from_vec(items: Vec<T>) -> Self
+        ensures { result ≡ items.items }
+    {
+        Listed { items }
+    }
+
     /// Adds an item at the end. On want of memory the item is handed back, and the
     /// list is as it was.
     pub fn push(&mut self, item: T) -> Result<(), (T, OutOfMemory)>
