@@ -1,0 +1,3 @@
+pub mod Standing
+pub mod Operands
+pub mod Starting

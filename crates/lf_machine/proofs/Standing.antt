@@ -1,0 +1,5 @@
+-- Each instruction of valid code leaves the frames where they may stand.
+pub mod ManySteps
+pub mod ValidParts
+pub mod SlotsMoved
+pub mod StepStands
