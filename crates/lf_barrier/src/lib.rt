@@ -6,7 +6,8 @@
 //! makes of a state and say where its result shows a fault. It promises that `plan_write`
 //! refuses a write exactly for the first fault that its result would show, and that
 //! `apply_write` makes a planned one with all counts and flags, without memory and within
-//! a bound of steps; and the same of `check_content` and `apply_content`.
+//! a bound of steps; and the same of `check_content` and `apply_content`. `is_below` tells
+//! whether a region lies below one of some bridges.
 #![tactic(auto)]
 
 mod applying;
@@ -20,5 +21,6 @@ mod survey;
 
 pub use applying::apply_write;
 pub use contents::{apply_content, check_content};
+pub use descent::is_below;
 pub use plan::WritePlan;
 pub use planning::plan_write;

@@ -1,0 +1,4 @@
+pub mod Walks
+pub mod GivenRegions
+pub mod Tables
+pub mod States

@@ -1,0 +1,3 @@
+pub mod RegionRows
+pub mod Merging
+pub mod Dissolving

@@ -1,0 +1,27 @@
+//! What changes hands as a whole: a region goes into another one, or is dissolved.
+//!
+//! It stands on `lf_domain`, which says when a store and a table are those of a state, on
+//! `lf_graph` for stores, on `lf_regions` for the table, on `lf_barrier` for what lies
+//! below a region, and on `lf_base` and `lf_laws`, which define what a merge and a
+//! dissolving make of a state. It promises that `plan_merge` and `plan_dissolve` refuse
+//! exactly by the rules, in their order, and change only the room in the store, and that
+//! `apply_merge` and `apply_dissolve` make what was planned with all counts and flags,
+//! without memory, in a number of steps that is linear in what changes its owner.
+//!
+//! Each plan is for the state in which it was made. What a call leaves without a
+//! justification is its caller's to drop: after a merge the old bridge is suspect enough,
+//! and after a dissolving nothing is.
+#![tactic(auto)]
+
+mod bridges;
+mod dissolve_plan;
+mod dissolving;
+mod giving;
+mod localizing;
+mod merge_plan;
+mod merging;
+
+pub use dissolve_plan::DissolvePlan;
+pub use dissolving::{apply_dissolve, plan_dissolve};
+pub use merge_plan::MergePlan;
+pub use merging::{apply_merge, plan_merge};
