@@ -1,0 +1,10 @@
+pub mod Counts
+pub mod Levels
+pub mod Joining
+pub mod SpotLists
+pub mod Rows
+pub mod Spawns
+pub mod Readiness
+pub mod Starts
+pub mod Ends
+pub mod States

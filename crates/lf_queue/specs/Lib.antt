@@ -1,0 +1,4 @@
+pub mod Ready
+pub mod Queues
+pub mod Counts
+pub mod Lines
