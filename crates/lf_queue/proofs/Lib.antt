@@ -8,3 +8,4 @@ pub mod Readiness
 pub mod Starts
 pub mod Ends
 pub mod States
+pub mod ReadyLaws

@@ -62,15 +62,15 @@ counted_one q (x ∷ xs) l = elim (q x) as (λ b. q x ≡ b → (s : Spot) × (M
   | false ↦ λ e. let a = count_first q x xs in let b = ap bit e in let r = counted_one q xs (omega (arith, a, b, l)) in (r.0, (inr r.1.0, r.1.1))
 ] refl
 
-false_unless : (b : Bool) → (b ≡ true → ⊥) → b ≡ false
+pub false_unless : (b : Bool) → (b ≡ true → ⊥) → b ≡ false
 false_unless true h = absurd (h refl)
 false_unless false h = refl
 
-and_is : (a b : Bool) → (a && b) ≡ true → (a ≡ true) × (b ≡ true)
+pub and_is : (a b : Bool) → (a && b) ≡ true → (a ≡ true) × (b ≡ true)
 and_is true b e = (refl, e)
 and_is false b e = absurd (cc)
 
-and_of : (a b : Bool) → a ≡ true → b ≡ true → (a && b) ≡ true
+pub and_of : (a b : Bool) → a ≡ true → b ≡ true → (a && b) ≡ true
 and_of a b e f = ap (λ c. c && b) e ∙ f
 
 module _ (rows : List Row) (spots : List Spot) (last : CownId → Option ℕ) (place : ℕ → Option ℕ) (marks : List ℕ) (keeps : KeepsJobs rows spots last place marks) where

@@ -6,9 +6,10 @@
 //!
 //! It promises that each call does to the waiting and the running jobs what its contract
 //! says, that `ready` and `ready_at` answer by the definition over these lists, and that
-//! only `reserve` takes memory.
+//! only `reserve` takes memory. `laws` has what was proved of readiness.
 #![tactic(auto)]
 
+pub mod laws;
 mod line;
 mod queue;
 mod ready_set;
