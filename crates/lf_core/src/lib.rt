@@ -1,0 +1,14 @@
+//! The core of a run: who waits, what is kept, what was done. Contents are seen
+//! by what `Stored` tells of them alone.
+//!
+//! It stands on `lf_queue` for who may start, on `lf_frozen` for frozen rows, and on the laws of
+//! rows. It has the definitions of a world of behaviours, of the world in which the behaviours of an
+//! order ran one after the other, and of a lawful actor. It promises what `laws` says of them.
+#![tactic(auto)]
+
+mod actor;
+mod journal;
+pub mod laws;
+
+pub use actor::{Actor, Outcome, Task};
+pub use journal::{Entry, Journal};
