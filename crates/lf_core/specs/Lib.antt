@@ -5,3 +5,4 @@ pub mod Tracks
 pub mod Lawful
 pub mod Events
 pub mod Tasks
+pub mod Orders
