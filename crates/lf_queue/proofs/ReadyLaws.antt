@@ -80,6 +80,7 @@ in_with h k (x ∷ xs) m = elim (ltb h.id x.id) as (λ b. Member k (cond b (h �
     first : Member k (h ∷ x ∷ xs) → (k ≡ h) ⊎ Member k (x ∷ xs)
     first (inl e) = inl (sym e)
     first (inr n) = inr n
+
     next : Member k (x ∷ with_holder h xs) → (Member k (with_holder h xs) → (k ≡ h) ⊎ Member k xs) → (k ≡ h) ⊎ Member k (x ∷ xs)
     next (inl e) f = inr (inl e)
     next (inr n) f = elim (f n) [ inl e ↦ inl e | inr o ↦ inr (inr o) ]
@@ -94,14 +95,14 @@ stays_started waiting running job other m n differ e f =
       | inr there ↦ none_any (λ (x : Holder). meets x.cowns job.cowns) running parts.0 h there
     ]))
     (any_none (λ (k : Job). ltb k.id job.id && meets k.cowns job.cowns) (without_job waiting other.id) (λ k i.
-        none_any (λ (x : Job). ltb x.id job.id && meets x.cowns job.cowns) waiting parts.1 k (Member_of_filter (λ (j : Job). not (eqb j.id other.id)) k waiting i).0))
+    none_any (λ (x : Job). ltb x.id job.id && meets x.cowns job.cowns) waiting parts.1 k (Member_of_filter (λ (j : Job). not (eqb j.id other.id)) k waiting i).0))
 
 pub stays_ended : (waiting : List Job) (running : List Holder) (job : Job) (id : ℕ) → is_ready waiting running job ≡ true → is_ready waiting (without_holder running id) job ≡ true
 stays_ended waiting running job id e =
     let parts = ready_parts waiting running job e in
     ready_of waiting (without_holder running id) job
     (any_none (λ (h : Holder). meets h.cowns job.cowns) (without_holder running id) (λ h m.
-        none_any (λ (x : Holder). meets x.cowns job.cowns) running parts.0 h (Member_of_filter (λ (x : Holder). not (eqb x.id id)) h running m).0))
+    none_any (λ (x : Holder). meets x.cowns job.cowns) running parts.0 h (Member_of_filter (λ (x : Holder). not (eqb x.id id)) h running m).0))
     parts.1
 
 pub stays_spawned : (waiting more : List Job) (running : List Holder) (job : Job) → ((other : Job) → Member other more → job.id ≤ other.id) → is_ready waiting running job ≡ true → is_ready (waiting ++ more) running job ≡ true
