@@ -11,6 +11,6 @@ computed (Ok v) = Yields v
 computed (Err fault) = Faults fault
 
 -- the bytes of a value, which is the first of its line or comes behind a space
-abbrev pub parted : Bool → List ℕ → List ℕ
-parted true bytes = bytes
-parted false bytes = 32 ∷ bytes
+abbrev pub in_line : Bool → List ℕ → List ℕ
+in_line true bytes = bytes
+in_line false bytes = 32 ∷ bytes

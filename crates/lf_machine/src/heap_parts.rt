@@ -11,7 +11,7 @@ ghost use Rattle.lf_code.specs.RunCode.{first_slots};
 ghost use Rattle.lf_code.specs.Spelling.{spelled, spelled_all};
 ghost use Rattle.lf_heap.specs.Heaps.{FitsInteger, SameRoom};
 ghost use Rattle.lf_machine.specs.Behaviours.{MayHoldAll};
-ghost use Rattle.lf_machine.specs.Values.{parted};
+ghost use Rattle.lf_machine.specs.Values.{in_line};
 
 use crate::spelling::add_value;
 use lf_base::{Answer, Label, OutOfMemory, Steps, TextId, Texts, Value, Values};
@@ -86,7 +86,7 @@ fn add_operand(
     is_first: bool,
     v: Value,
 ) -> Result<(), OutOfMemory>
-    ensures { OnOk result (line.new.items ≡ line.old.items ++ parted is_first (spelled texts.now v)) }
+    ensures { OnOk result (line.new.items ≡ line.old.items ++ in_line is_first (spelled texts.now v)) }
 {
     if is_first {
         return add_value(line, texts, v);
