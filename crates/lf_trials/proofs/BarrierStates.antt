@@ -1,11 +1,10 @@
 -- Writes and contents that the barrier is asked for where two regions are, and a local object.
-use Rattle.std.proofs.Common.{List, arith, inl, inr, refl, ap, subst, sym, true, ◌∙◌, ◌≡◌}
+use Rattle.std.proofs.Common.{List, arith, inl, inr, refl, ap, sym, true, ◌∙◌, ◌≡◌}
 use Rattle.lf_base.specs.declared.ids.ObjId.{ObjId}
 use Rattle.lf_base.specs.declared.values.Value.TheVariants.{Obj}
 use Rattle.lf_base.specs.Owners.{owner_of}
 use Rattle.lf_base.specs.PlainChanges.{object_result}
 use Rattle.lf_base.specs.PlainState.{State}
-use Rattle.lf_base.specs.Sets.{Member}
 use Rattle.lf_base.specs.WellFormed.{SlotMayHold, from_near}
 use Rattle.lf_barrier.specs.WritePlans.{IsAsked}
 use Rattle.lf_domain.specs.Counts.{CountsOf, IsDomain}

@@ -1,4 +1,5 @@
 pub mod TwoRegions
+pub mod OwnedRegion
 pub mod SettledRows
 pub mod LocalChains
 pub mod FrozenBatches

@@ -1,0 +1,17 @@
+// Regions that change hands, on the flat store.
+
+use crate::transfer_cases::transfer_passes;
+use lf_graph::FlatStore;
+use std::marker::Brand;
+use std::sync::ledger::Blank;
+use std::test::Fail;
+
+#[test]
+fn regions_change_hands(rt: HostRuntime) -> Result<(), Fail> {
+    let passed = match transfer_passes::<FlatStore, Brand>(rt.alloc(), Blank::new(1)) {
+        Ok(passed) => passed,
+        Err(_refused) => false,
+    };
+    assert!(rt; passed);
+    Ok(())
+}
