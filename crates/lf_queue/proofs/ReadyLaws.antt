@@ -1,12 +1,12 @@
 -- What readiness says of lists of jobs.
-use Rattle.std.proofs.Common.{Bool, List, None, Option, Some, [], ap, arith, cond, eqb, false, filter, inl, inr, length, ltb, map, not, refl, subst, suc, sym, true, zero, ℕ, ◌&&◌, ◌++◌, ◌<◌, ◌≤◌, ◌∙◌, ◌∷◌, ◌≡◌, ◌≢◌, ◌⊎◌}
-use Rattle.std.specs.List.{list_any, slice_get}
-use Rattle.std.proofs.lemmas.Bool.{eq-eqb, eqb-true, le-ltb, lt-ltb, ltb-true, ltb-false}
+use Rattle.std.proofs.Common.{Bool, List, Some, [], ap, arith, cond, eqb, false, inl, inr, ltb, map, not, refl, suc, sym, true, zero, ℕ, ◌&&◌, ◌++◌, ◌<◌, ◌≤◌, ◌∙◌, ◌∷◌, ◌≡◌, ◌≢◌, ◌⊎◌}
+use Rattle.std.specs.List.{slice_get}
+use Rattle.std.proofs.lemmas.Bool.{eq-eqb, le-ltb, lt-ltb}
 use Rattle.lf_base.specs.declared.behaviours.Job.{Job}
 use Rattle.lf_base.specs.declared.ids.CownId.{CownId}
 use Rattle.lf_base.specs.Sets.{Member}
 use Rattle.lf_base.proofs.ListLemmas.Filters.{Member_of_filter}
-use Rattle.lf_base.proofs.ListLemmas.Members.{Member_any, Member_of_append, any_Member}
+use Rattle.lf_base.proofs.ListLemmas.Members.{Member_of_append}
 use Rattle.lf_base.proofs.ListLemmas.Tests.{any_none, none_any, some_is}
 use Rattle.lf_queue.specs.Queues.{holder_of, with_holder, without_holder, without_job}
 use Rattle.lf_queue.specs.Ready.{Holder, is_behind, is_held, is_ready, job_of, meets, ready_ids, ready_job, ready_jobs}
@@ -69,7 +69,7 @@ ready_apart waiting running job other m n differ e f = false_unless _ (λ share.
     which : (a b : ℕ) → (a < b) ⊎ ((b < a) ⊎ (a ≡ b))
     which a b = grind arith
 
-in_with : (h k : Holder) (hs : List Holder) → Member k (with_holder h hs) → (k ≡ h) ⊎ Member k hs
+pub in_with : (h k : Holder) (hs : List Holder) → Member k (with_holder h hs) → (k ≡ h) ⊎ Member k hs
 in_with h k [] (inl e) = inl (sym e)
 in_with h k [] (inr m) = absurd m
 in_with h k (x ∷ xs) m = elim (ltb h.id x.id) as (λ b. Member k (cond b (h ∷ x ∷ xs) (x ∷ with_holder h xs)) → (k ≡ h) ⊎ Member k (x ∷ xs)) [

@@ -9,9 +9,12 @@
 //! only `reserve` takes memory. `laws` has what was proved of readiness.
 #![tactic(auto)]
 
+pub mod callers;
 pub mod laws;
 mod line;
 mod queue;
+#[cfg(test)]
+mod queue_tests;
 mod ready_set;
 mod row;
 mod spot;
