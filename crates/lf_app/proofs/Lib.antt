@@ -1,5 +1,6 @@
-pub mod LoneArguments
 pub mod Dues
 pub mod Judging
+pub mod MainRuns
 pub mod OneVerdict
-pub mod Walking
+pub mod TicksSoFar
+pub mod UnbuiltLines

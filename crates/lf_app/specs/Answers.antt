@@ -1,6 +1,7 @@
 -- What a call of the program may answer, and what it has then read and written.
 use Rattle.std.specs.Prelude.{◌≡◌, ◌≤◌, ◌+◌, ◌⊎◌, ℕ, Bool, true, false, List, [], length, nat_lt, Option, Some, None}
 use Rattle.std.specs.Io.KnownBytes.{Consumes, Appends, IsAtEnd}
+use Rattle.lf_base.specs.declared.faults.FaultAt.{FaultAt}
 use Rattle.lf_base.specs.declared.limits.TheConstants.{MOST_SCRIPT_BYTES}
 use Rattle.lf_outside.specs.Causes.{Rose}
 use Rattle.lf_outside.specs.Streams.{Stream, stream_of}
@@ -14,9 +15,14 @@ use Rattle.lf_app.specs.Words.{command_of}
 use Rattle.lf_app.specs.Verdicts.{Verdict, Runs, Checked, Lists, Refuses, IsVerdict}
 use Rattle.lf_app.specs.Output.{output_of, journal_of}
 
+-- the status of a run that a fault ended, or none
+abbrev pub run_status : Option FaultAt → Status
+run_status None = Done
+run_status (Some at) = Faulted
+
 -- the status of a script's verdict
 abbrev pub due_of : Verdict → Status
-due_of (Runs numbers) = Done
+due_of (Runs lines fault) = run_status fault
 due_of Checked = Done
 due_of (Lists code) = Done
 due_of (Refuses refusal) = ScriptRefused
@@ -119,10 +125,10 @@ pub record LacksMemory (call : Call) (report : Report) : Type 0 where
   pub faults : call.source_after.faults ≡ call.source.faults
   pub sink : call.sink_after ≡ call.sink
 
--- what each status says. No script faults or stops yet
+-- what each status says. No run stops yet
 abbrev pub Says : Call → Report → Status → Type 0
 Says call report Done = Completes call report
-Says call report Faulted = ⊥
+Says call report Faulted = Completes call report
 Says call report ScriptRefused = Completes call report
 Says call report WordsRefused = RefusesWords call report
 Says call report Stopped = ⊥

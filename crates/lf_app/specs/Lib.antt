@@ -1,10 +1,9 @@
 pub mod Words
 pub mod Statuses
-pub mod FirstForm
+pub mod Unbuilt
 pub mod Verdicts
 pub mod Output
 pub mod Answers
 pub mod WorkedRows
-pub mod Fields
-pub mod WalkFollows
+pub mod Ran
 pub mod Outcomes

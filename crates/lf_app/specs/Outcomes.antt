@@ -10,15 +10,16 @@ use Rattle.lf_app.specs.declared.statuses.Status.TheVariants.{WriteFault}
 use Rattle.lf_code.specs.Listing.{listing}
 use Rattle.lf_app.specs.declared.outcomes.Outcome.{Outcome}
 use Rattle.lf_app.specs.declared.outcomes.Output.{Output}
-use Rattle.lf_app.specs.declared.outcomes.Output.TheVariants.{Text, Listing}
+use Rattle.lf_app.specs.declared.outcomes.Output.TheVariants.{Text, Listing, Run}
 use Rattle.lf_app.specs.Verdicts.{Verdict, IsVerdict}
-use Rattle.lf_app.specs.Output.{output_of, journal_of}
+use Rattle.lf_app.specs.Output.{output_of, journal_of, run_text}
 use Rattle.lf_app.specs.Answers.{due_of}
 
 -- the bytes that are to be written
 abbrev pub output_bytes : Output → List ℕ
 output_bytes (Text text) = string_bytes text
 output_bytes (Listing code) = listing code
+output_bytes (Run ran) = run_text ran.lines ran.fault
 
 -- the status, the output and the journal of a verdict
 pub record IsOutcomeOf (verdict : Verdict) (outcome : Outcome) : Type 0 where

@@ -1,11 +1,12 @@
-ghost use Rattle.std.specs.Prelude.{◌≡◌, ℕ, List, IfOk, string_bytes};
+ghost use Rattle.std.specs.Prelude.{◌≡◌, IfOk, string_bytes};
+ghost use Rattle.lf_app.specs.Answers.{run_status as status_of_run};
 ghost use Rattle.lf_app.specs.Verdicts.{Runs, Checked, Lists, Refuses};
 ghost use Rattle.lf_app.specs.Output.{refusal_line as line_of_refusal};
 ghost use Rattle.lf_app.specs.Outcomes.{IsOutcomeOf};
-ghost use Rattle.lf_app.specs.WalkFollows.{text_so_far};
 
+use crate::run_text::Ran;
 use crate::statuses::Status;
-use lf_base::{Order, OutOfMemory, Place, Refusal};
+use lf_base::{FaultAt, Order, OutOfMemory, Place, Refusal};
 use lf_code::Code;
 use std::alloc::Global;
 
@@ -16,6 +17,8 @@ pub enum Output {
     Text(String),
     /// The listing of code.
     Listing(Code),
+    /// The text of a run.
+    Run(Ran),
 }
 
 /// What comes of a script, before anything of it is written.
@@ -35,18 +38,27 @@ fn refusal_line(alloc: Global, refusal: Refusal) -> Result<String, OutOfMemory>
     Ok(format!(in alloc; "refused {kind} at line {line} column {column}\n")?)
 }
 
-/// The outcome of a script that ran, from its text without the closing line.
-pub fn run_outcome(alloc: Global, mut text: String) -> Result<Outcome, OutOfMemory>
-    ensures { IfOk result (λ outcome. (numbers : List ℕ) → string_bytes text ≡ text_so_far numbers → IsOutcomeOf (Runs numbers) outcome) }
+// The status of a run that a fault ended, or none.
+fn run_status(fault: Option<FaultAt>) -> Status
+    ensures { result ≡ status_of_run fault }
 {
-    text.push_str("done 1 behaviours 0 faults\n")?;
+    match fault {
+        None => Status::Done,
+        Some(_) => Status::Faulted,
+    }
+}
+
+/// The outcome of a script that ran.
+pub fn run_outcome(alloc: Global, ran: Ran) -> Result<Outcome, OutOfMemory>
+    ensures { IfOk result (IsOutcomeOf (Runs ran.lines ran.fault)) }
+{
     let mut order = Order::new(alloc);
     if order.push(0).is_err() {
         return Err(OutOfMemory);
     }
     Ok(Outcome {
-        status: Status::Done,
-        output: Output::Text(text),
+        status: run_status(ran.fault),
+        output: Output::Run(ran),
         order,
     })
 }

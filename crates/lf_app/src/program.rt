@@ -7,16 +7,18 @@ ghost use Rattle.lf_app.specs.Outcomes.{WritesOutcome, output_bytes};
 use crate::commands::Command;
 use crate::outcomes::{Outcome, Output};
 use crate::reports::Report;
+use crate::run_text::write_run_text;
 use crate::script::judge;
 use crate::statuses::Status;
 use crate::word_list::Word;
 use lf_base::{MOST_SCRIPT_BYTES, Order};
 use lf_code::write_listing;
+use lf_graph::{FlatStore, Store};
 use lf_outside::{Failed, Gate, ReadStop, Sink, Source, read_all, write_all};
 use std::alloc::Global;
 
-/// The store that the program keeps its rows in. No row is kept yet.
-pub struct MainStore;
+/// The store that the program keeps its rows in.
+pub type MainStore = FlatStore;
 
 // A report of a call in which no run began.
 fn ended(alloc: Global, status: Status) -> Report
@@ -35,6 +37,7 @@ fn write_output<K: Sink>(out: &mut K, output: &Output) -> Result<(), Failed>
     match output {
         Output::Text(text) => write_all(out, text.as_bytes()),
         Output::Listing(code) => write_listing(code, out),
+        Output::Run(ran) => write_run_text(out, ran.lines.as_slice(), ran.fault),
     }
 }
 
@@ -53,12 +56,13 @@ fn write_outcome<K: Sink>(out: &mut K, outcome: Outcome) -> Report
 }
 
 /// All that the program does, for all words but those of a free schedule: it reads a script from
-/// the source, runs, checks or lists it, and writes what comes of it to the sink.
+/// the source, runs, checks or lists it, and writes what comes of it to the sink. `H` is the store
+/// that a run keeps its rows in.
 ///
 /// `Answers` says what each status means of the source, the sink and the journal; `IsComplete`
 /// that the status is the due one, or want of memory, where neither of them failed. No clause
 /// says when memory is wanting; the sink is then as before.
-pub fn tool<R, H, S: Source, K: Sink, G: Gate>(
+pub fn tool<R, H: Store, S: Source, K: Sink, G: Gate>(
     _rt: &R,
     alloc: Global,
     words: &[Word],
@@ -80,14 +84,14 @@ pub fn tool<R, H, S: Source, K: Sink, G: Gate>(
         Err(ReadStop::TooLong) => return ended(alloc, Status::ScriptTooLong),
         Err(ReadStop::OutOfMemory) => return ended(alloc, Status::OutOfMemory),
     };
-    let Ok(outcome) = judge(alloc, command, bytes.as_slice()) else {
+    let Ok(outcome) = judge::<H>(alloc, command, bytes.as_slice()) else {
         return ended(alloc, Status::OutOfMemory);
     };
     write_outcome(out, outcome)
 }
 
 /// All that the program does. It is what `main` calls, and answers the report of [`tool`].
-pub fn top<R, H, S: Source, K: Sink, G: Gate>(
+pub fn top<R, H: Store, S: Source, K: Sink, G: Gate>(
     rt: &R,
     alloc: Global,
     words: &[Word],

@@ -1,5 +1,7 @@
 ghost use Rattle.std.specs.Prelude.{◌≡◌, IfOk};
+ghost use Rattle.std.specs.Option.{option_copied};
 ghost use Rattle.std.specs.Str.{bytes_eq};
+ghost use Rattle.lf_app.specs.Words.{joined_value};
 
 use lf_base::OutOfMemory;
 use std::alloc::Global;
@@ -33,5 +35,19 @@ impl Word {
         ensures { result ≡ bytes_eq self.now text.now }
     {
         self.text.as_str() == text
+    }
+
+    /// The bytes of the word.
+    pub fn as_bytes(&self) -> &[u8]
+        ensures { result.now ≡ self.now }
+    {
+        self.text.as_bytes()
+    }
+
+    /// What follows `--steps=` in the word. `None` comes exactly where it doesn't begin so.
+    pub fn joined_value(&self) -> Option<&[u8]>
+        ensures { option_copied result ≡ joined_value self.now }
+    {
+        self.text.as_bytes().strip_prefix("--steps=".as_bytes())
     }
 }

@@ -1,40 +1,24 @@
-//! Short trees on which the definitions of the first form are tried. Each function has an empty
+//! Short words, texts and code on which the definitions are tried. Each function has an empty
 //! body; its clause is the row.
 
-ghost use Rattle.lf_app.specs.WorkedRows.{DefsShow, EmptyShows, FirstSumShows, PrintIsNoWordShows, RewrittenFieldShows, WrongNamesShow};
-ghost use Rattle.lf_app.specs.WorkedRows.{WrongValuesShow};
+ghost use Rattle.lf_app.specs.WorkedRows.{FirstUnbuiltShows, StepsShow, TextShows, WrongStepsShow};
 
-/// A script may have no statement.
-pub fn empty()
-    ensures { EmptyShows }
+/// The ticks of a run are said in two ways.
+pub fn steps()
+    ensures { StepsShow }
 {}
 
-/// A sum is stored and printed.
-pub fn first_sum()
-    ensures { FirstSumShows }
+/// Other words say none.
+pub fn wrong_steps()
+    ensures { WrongStepsShow }
 {}
 
-/// A field keeps the value that was written last.
-pub fn rewritten_field()
-    ensures { RewrittenFieldShows }
+/// What was printed stands between the heading and the closing line.
+pub fn text()
+    ensures { TextShows }
 {}
 
-/// `print` is a word of a call alone.
-pub fn print_as_a_name()
-    ensures { PrintIsNoWordShows }
-{}
-
-/// The object and its fields are named before they are used.
-pub fn wrong_names()
-    ensures { WrongNamesShow }
-{}
-
-/// An expression is a small number, a sum of two, or a field.
-pub fn wrong_values()
-    ensures { WrongValuesShow }
-{}
-
-/// A `def` leaves the form too.
-pub fn defs()
-    ensures { DefsShow }
+/// The first line with a form that doesn't run yet is the least, in whatever body it stands.
+pub fn first_unbuilt()
+    ensures { FirstUnbuiltShows }
 {}

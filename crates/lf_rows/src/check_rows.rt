@@ -14,7 +14,7 @@ static ROWS: [Row; 7] = [
         ..CHECKED
     },
     Row {
-        name: "check: a script that doesn't run yet",
+        name: "check: a loop",
         script: "x = 1\nwhile x < 3:\n    x = x + 1\n",
         ..CHECKED
     },

@@ -18,11 +18,13 @@ mod code_rows;
 #[cfg(test)]
 mod deepest_script;
 #[cfg(test)]
-mod first_form_rows;
+mod fault_rows;
 #[cfg(test)]
 mod lexer_tests;
 #[cfg(test)]
 mod listing_rows;
+#[cfg(test)]
+mod long_runs;
 #[cfg(test)]
 mod long_scripts;
 #[cfg(test)]
@@ -32,11 +34,15 @@ mod not_built_rows;
 #[cfg(test)]
 mod outside_tests;
 #[cfg(test)]
+mod ownership_rows;
+#[cfg(test)]
 mod refusal_rows;
 #[cfg(test)]
 mod row;
 #[cfg(test)]
 mod rows;
+#[cfg(test)]
+mod run_rows;
 #[cfg(test)]
 mod stream_rows;
 #[cfg(test)]

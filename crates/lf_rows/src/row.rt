@@ -39,6 +39,12 @@ pub const RAN: Row = Row {
     order: &[0],
 };
 
+/// A script that a fault ends.
+pub const FAULTED: Row = Row {
+    status: Status::Faulted,
+    ..RAN
+};
+
 /// A script that is refused.
 pub const REFUSED: Row = Row {
     status: Status::ScriptRefused,

@@ -1,11 +1,14 @@
 use crate::check_rows::check_rows;
 use crate::deepest_script::deepest_script;
-use crate::first_form_rows::first_form_rows;
+use crate::fault_rows::fault_rows;
 use crate::listing_rows::listing_rows;
+use crate::long_runs::{LongRun, full_output, most_objects};
 use crate::long_scripts::{LongScript, long_scripts, script_of};
 use crate::not_built_rows::not_built_rows;
+use crate::ownership_rows::ownership_rows;
 use crate::refusal_rows::refusal_rows;
 use crate::row::{Row, WHOLE};
+use crate::run_rows::run_rows;
 use crate::stream_rows::stream_rows;
 use crate::word_rows::word_rows;
 use lf_app::{MainStore, Report, Status, Word, tool, top};
@@ -64,7 +67,19 @@ fn check_rows_of<R: Abort>(rt: &R, alloc: Global, rows: &[Row]) -> Result<(), Ou
 
 #[test]
 fn scripts_run(rt: HostRuntime) -> Result<(), Fail> {
-    check_rows_of(&rt, rt.alloc(), first_form_rows())?;
+    check_rows_of(&rt, rt.alloc(), run_rows())?;
+    Ok(())
+}
+
+#[test]
+fn scripts_with_regions_run(rt: HostRuntime) -> Result<(), Fail> {
+    check_rows_of(&rt, rt.alloc(), ownership_rows())?;
+    Ok(())
+}
+
+#[test]
+fn faults_end_scripts(rt: HostRuntime) -> Result<(), Fail> {
+    check_rows_of(&rt, rt.alloc(), fault_rows())?;
     Ok(())
 }
 
@@ -138,6 +153,30 @@ fn the_deepest_script_is_read(rt: HostRuntime) -> Result<(), Fail> {
     let script = deepest_script(rt.alloc())?;
     let sink = checked_text(&rt, rt.alloc(), script.as_str())?;
     assert!(rt; sink.bytes() == "script ok\n".as_bytes());
+    Ok(())
+}
+
+fn check_long_run<R: Abort>(rt: &R, alloc: Global, long: &LongRun) -> Result<(), OutOfMemory> {
+    let words = words_of(alloc, long.words)?;
+    let text = script_of(alloc, long.text)?;
+    let mut source = MemSource::new(alloc, long.script.as_bytes(), 100, WHOLE.failing)?;
+    let mut sink = MemSink::new(alloc, 1_200_000, 1_000_000, WHOLE.failing)?;
+    let words = words.as_slice();
+    let report = tool::<R, MainStore, _, _, _>(rt, alloc, words, &mut source, &mut sink, &NoGate);
+    assert_eq!(rt; report.status, Status::Faulted, "{}: the status", long.name);
+    assert!(rt; sink.bytes() == text.as_bytes(), "{}: the text", long.name);
+    Ok(())
+}
+
+#[test]
+fn a_behaviour_prints_1_048_576_bytes(rt: HostRuntime) -> Result<(), Fail> {
+    check_long_run(&rt, rt.alloc(), full_output())?;
+    Ok(())
+}
+
+#[test]
+fn a_behaviour_makes_a_million_objects(rt: HostRuntime) -> Result<(), Fail> {
+    check_long_run(&rt, rt.alloc(), most_objects())?;
     Ok(())
 }
 

@@ -5,7 +5,7 @@ use Rattle.lf_app.proofs.Judging.{of_script}
 use Rattle.lf_app.proofs.script.judge.Goals as goal
 
 pub returns : goal.returns
-returns c =
+returns g c =
     let script = c.in-Ok.script in
     let tree = plain_tree script.resolved in
     IfOk-weaker c.script_outcome.result _ _

@@ -1,0 +1,37 @@
+//! Numbers of ticks, as the words of the command line write them.
+
+ghost use Rattle.std.specs.Prelude.{◌≡◌};
+ghost use Rattle.lf_app.specs.Words as spec;
+
+/// The ticks of a behaviour where no word says how many.
+pub const DEFAULT_TICKS: u64 = 1_000_000;
+
+/// The most ticks that a behaviour may have.
+pub const MOST_TICKS: u64 = 1_000_000_000;
+
+fn is_digit(byte: u8) -> bool
+    ensures { result ≡ spec.is_digit byte }
+{
+    matches!(byte, b'0'..=b'9')
+}
+
+/// The number of ticks that digits write. `None` comes exactly where other bytes stand among
+/// them, or the number isn't from 1 to `MOST_TICKS`.
+pub fn ticks_of(number: &[u8]) -> Option<u64>
+    ensures { result ≡ spec.ticks_of number.now }
+{
+    let mut ticks: u64 = 0;
+    for byte in number {
+        if !is_digit(*byte) {
+            return None;
+        }
+        ticks = 10 * ticks + u64::from(*byte - b'0');
+        if ticks > MOST_TICKS {
+            return None;
+        }
+    }
+    if ticks == 0 {
+        return None;
+    }
+    Some(ticks)
+}
