@@ -17,6 +17,7 @@ use std::sync::ledger::Ledger;
 
 /// Counts the edge of a slot or of a local row's field, where it has one. The region
 /// into which it leads is borrowed once more.
+#[inline(always)]
 pub fn count_borrow<S: Store, L: Ledger>(
     store: &mut S,
     regions: &mut RegionTable,
@@ -36,6 +37,7 @@ pub fn count_borrow<S: Store, L: Ledger>(
 
 /// Takes the edge of a slot or of a local row's field out of the counts, where it has
 /// one.
+#[inline(always)]
 pub fn uncount_borrow<S: Store, L: Ledger>(
     store: &mut S,
     regions: &mut RegionTable,
@@ -57,6 +59,7 @@ pub fn uncount_borrow<S: Store, L: Ledger>(
 }
 
 // Counts an edge to an object.
+#[inline(never)]
 fn count_object<S: Store, L: Ledger>(
     store: &mut S,
     regions: &mut RegionTable,
@@ -81,6 +84,7 @@ fn count_object<S: Store, L: Ledger>(
 }
 
 // Takes an edge to an object out of the counts.
+#[inline(never)]
 fn uncount_object<S: Store, L: Ledger>(
     store: &mut S,
     regions: &mut RegionTable,

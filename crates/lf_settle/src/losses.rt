@@ -30,6 +30,7 @@ use std::sync::ledger::Ledger;
 /// one; the store has the rows without it already. Its target becomes a suspect exactly
 /// where that was the last edge to it, or the last borrow of a region without owner. That
 /// needs room of 1.
+#[inline(always)]
 pub fn lose_borrow<S: Store, L: Ledger>(
     store: &mut S,
     regions: &mut RegionTable,
@@ -105,6 +106,7 @@ pub fn lose_content<S: Store, L: Ledger>(
 
 // Notes what the loss of an edge from a place in the region `home` leaves without
 // justification; no region is given for a slot, a local row or a content.
+#[inline(always)]
 fn notice<S: Store, L: Ledger>(
     store: &S,
     regions: &RegionTable,
@@ -127,6 +129,7 @@ fn notice<S: Store, L: Ledger>(
 }
 
 // The same of an edge to an object.
+#[inline(never)]
 fn notice_object<S: Store, L: Ledger>(
     store: &S,
     regions: &RegionTable,

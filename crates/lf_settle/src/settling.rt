@@ -19,6 +19,7 @@ use lf_regions::RegionTable;
 use std::sync::ledger::Ledger;
 
 // Drops what must go because of one suspect.
+#[inline(never)]
 fn settle_one<S: Store, L: Ledger>(
     store: &mut S,
     regions: &mut RegionTable,
@@ -49,6 +50,7 @@ fn settle_one<S: Store, L: Ledger>(
 ///
 /// Its steps are at most 64 for the call, for each suspect, and for each row and each
 /// field that goes.
+#[inline(always)]
 pub fn settle<S: Store, L: Ledger>(
     store: &mut S,
     regions: &mut RegionTable,
