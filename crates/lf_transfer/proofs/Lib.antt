@@ -2,3 +2,5 @@ pub mod Walks
 pub mod GivenRegions
 pub mod Tables
 pub mod States
+pub mod Taken
+pub mod Freezes

@@ -16,12 +16,22 @@
 mod bridges;
 mod dissolve_plan;
 mod dissolving;
+mod freeze_plan;
+mod freezing;
 mod giving;
+pub mod laws;
 mod localizing;
+mod loose;
+mod losing;
 mod merge_plan;
 mod merging;
+mod names;
+mod taking;
 
 pub use dissolve_plan::DissolvePlan;
 pub use dissolving::{apply_dissolve, plan_dissolve};
+pub use freeze_plan::FreezePlan;
+pub use freezing::{apply_freeze, plan_freeze};
+pub use loose::Loose;
 pub use merge_plan::MergePlan;
 pub use merging::{apply_merge, plan_merge};
