@@ -1,16 +1,20 @@
-//! What changes hands as a whole: a region goes into another one, or is dissolved.
+//! What changes hands as a whole: a region goes into another one, or is dissolved, and an
+//! object is frozen with all that it leads to.
 //!
 //! It stands on `lf_domain`, which says when a store and a table are those of a state, on
-//! `lf_graph` for stores, on `lf_regions` for the table, on `lf_barrier` for what lies
-//! below a region, and on `lf_base` and `lf_laws`, which define what a merge and a
-//! dissolving make of a state. It promises that `plan_merge` and `plan_dissolve` refuse
-//! exactly by the rules, in their order, and change only the room in the store, and that
-//! `apply_merge` and `apply_dissolve` make what was planned with all counts and flags,
-//! without memory, in a number of steps that is linear in what changes its owner.
+//! `lf_graph` for stores, on `lf_regions` for the table, on `lf_frozen` for the map of frozen
+//! rows, on `lf_barrier` for what lies below a region, and on `lf_base` and `lf_laws`, which
+//! define what a merge, a dissolving and a freeze make of a state. It promises that
+//! `plan_merge` and `plan_dissolve` refuse exactly by the rules, in their order, and change
+//! only the room in the store, that `plan_freeze` refuses and changes nothing, and that
+//! `apply_merge`, `apply_dissolve` and `apply_freeze` make what was planned with all counts
+//! and flags, without memory; the first two in a number of steps that is linear in what
+//! changes its owner.
 //!
 //! Each plan is for the state in which it was made. What a call leaves without a
 //! justification is its caller's to drop: after a merge the old bridge is suspect enough,
-//! and after a dissolving nothing is.
+//! after a dissolving nothing is, and after a freeze the regions are that `apply_freeze`
+//! puts on the list (`laws`).
 #![tactic(auto)]
 
 mod bridges;

@@ -5,3 +5,4 @@ pub mod FrozenTarget
 pub mod OwnedRegion
 pub mod LocalChains
 pub mod FrozenBatches
+pub mod BorrowedInner

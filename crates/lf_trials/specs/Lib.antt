@@ -3,3 +3,4 @@ pub mod OwnedRegion
 pub mod SettledRows
 pub mod LocalChains
 pub mod FrozenBatches
+pub mod BorrowedInner

@@ -16,6 +16,7 @@ mod contents;
 pub mod counted_edges;
 #[cfg(test)]
 mod domain_tests;
+pub mod freeze_cases;
 pub mod frozen_maps;
 #[cfg(test)]
 mod frozen_tests;

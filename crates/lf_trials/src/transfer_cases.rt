@@ -15,7 +15,7 @@ use std::alloc::Global;
 use std::sync::ledger::{Blank, Ledger};
 
 // Two regions, the first of which owns the second.
-fn owned_region<S: Store, L: Ledger>(
+pub(crate) fn owned_region<S: Store, L: Ledger>(
     alloc: Global,
     steps: &mut Steps<L>,
 ) -> Result<(S, RegionTable), HeapFail>
