@@ -1,4 +1,4 @@
-use Rattle.std.proofs.Common.{Some, refl}
+use Rattle.std.proofs.Common.{refl}
 use Rattle.lf_base.specs.EdgeLists.{near_edges}
 use Rattle.lf_base.specs.Edges.{Slot}
 use Rattle.lf_base.specs.PlainChanges.{object_result}
