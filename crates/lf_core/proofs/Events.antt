@@ -1,11 +1,11 @@
 -- All interleavings.
 use Rattle.std.proofs.Common.{◌≡◌, ℕ, zero, suc, ◌<◌, ◌≤◌, true, false, cond, not, ◌&&◌, eqb, ltb, List, [], ◌∷◌, ◌++◌, length, Option, Some, None, map, refl, ap, sym, ◌∙◌, subst, inl, inr, arith}
 use Rattle.lf_base.proofs.ListLemmas.Filters.{Member_filter, Member_of_filter}
-use Rattle.lf_base.proofs.ListLemmas.Members.{Member_of_flat_map, Member_of_map, any_Member, Member_left}
-use Rattle.lf_core.proofs.Tests.{no_both, or_split}
+use Rattle.lf_base.proofs.ListLemmas.Members.{Member_map, Member_of_flat_map, Member_of_map, any_Member, Member_left}
+use Rattle.lf_core.proofs.Tests.{no_both, not_true, or_split}
 use Rattle.lf_laws.proofs.Rows.RowsByName.{owner_has}
 use Rattle.std.specs.List.{filter, list_any}
-use Rattle.std.proofs.lemmas.Bool.{eqb-true, eq-eqb, ltb-true}
+use Rattle.std.proofs.lemmas.Bool.{eqb-false, eqb-true, eq-eqb, ltb-true, ne_eqb}
 use Rattle.lf_base.specs.declared.behaviours.Job.{Job}
 use Rattle.lf_base.specs.declared.ids.CownId.{CownId}
 use Rattle.lf_base.specs.declared.ids.ObjId.{ObjId}
@@ -13,15 +13,20 @@ use Rattle.lf_base.specs.Owners.{has_row, row_at, row_owner}
 use Rattle.lf_base.specs.PlainState.{Row}
 use Rattle.lf_base.specs.Sets.{Member}
 use Rattle.lf_core.specs.declared.journal.Entry.{Entry}
-use Rattle.lf_core.specs.Keyed.{at, among, pick}
+use Rattle.lf_core.specs.Keyed.{at, pick}
+use Rattle.lf_queue.specs.Queues.{holder_of, with_holder}
+use Rattle.lf_queue.specs.Ready.{Holder, among, job_of, meets}
+use Rattle.lf_queue.proofs.ReadyLaws.{in_with}
+use Rattle.lf_core.specs.Tracks.{blocks}
 use Rattle.lf_core.specs.Lawful.{Good, Keeps, Larger, Lawful, Reached, at_first, cowns_of_values, next_one}
 use Rattle.lf_core.specs.Reading.{Reading, names_in, row_cowns}
 use Rattle.lf_core.specs.Tracks.{IsFree, Tracks, Numbered, Fits, KnowsCowns}
-use Rattle.lf_core.specs.World.{IsLegalFrom, Outcome, Runs, World, blocks, committed, done, done_if, first, is_ready, job_in, meets, numbered, order_of, other, ready_job, ready_jobs, serial, serial_from}
+use Rattle.lf_core.specs.World.{IsLegalFrom, Outcome, Runs, World, committed, done, done_if, first, is_ready, numbered, order_of, ready_job, ready_jobs, serial, serial_from}
 use Rattle.lf_core.specs.Events.{Machine, Run, Whole, Event, Start, Step, End, run_in, begun, stepped, ended_by, ended, happens, happen, steps, Computes, RunsOn, Kept, first_whole, Interleavings, at_once}
 use Rattle.lf_core.proofs.Tests.{is_false}
 use Rattle.lf_core.proofs.Keyed.{at_pick, among_Member}
-use Rattle.lf_core.proofs.Tracks.{other_is, is_other, disjoint, ready_there, same_contents, start_tracks, contents_stay, end_tracks}
+use Rattle.lf_core.proofs.Holders.{in_left, is_other, left_is, other, with_here, with_there}
+use Rattle.lf_core.proofs.Tracks.{disjoint, ready_there, same_contents, start_tracks, contents_stay, end_tracks, free_there}
 use Rattle.lf_core.proofs.Good.{at_insert_rows, cond_some, fits, good_after, look_rows, not_elsewhere, not_frozen, frozen_is, pick_member}
 
 -- ---- the worlds of Serial
@@ -56,7 +61,7 @@ good r f law _ (next_one {s = s} j x m) = good_after r f s j (good r f law s x) 
 pub free_ready : {C : Type 0} (s : World C) (j : Job) → s.running ≡ [] → IsFree s j → Member j (ready_jobs s)
 free_ready s j idle h =
     Member_filter (is_ready s) j s.waiting h.0
-    (λ i. not (list_any (λ (k : Job). meets k.cowns j.cowns) (idle i)) && not (none i))
+    (λ i. not (list_any (λ (h : Holder). meets h.cowns j.cowns) (idle i)) && not (none i))
   where
     none : list_any (blocks j) s.waiting ≡ false
     none = is_false _ (λ e. let x = any_Member (blocks j) s.waiting e in let y = h.1 x.0 x.1.0 in let z = x.1.1 in cc)
@@ -66,21 +71,21 @@ map_last : (es : List Entry) (e : Entry) → map (λ (e : Entry). e.id) (es ++ e
 map_last [] e = refl
 map_last (x ∷ es) e = ap (λ ns. x.id ∷ ns) (map_last es e)
 
-pub job_in_one : (js : List Job) (j : Job) → Member j js → ((k : Job) → Member k js → k.id ≡ j.id → k ≡ j) → job_in js j.id ≡ Some j
-job_in_one [] j m h = absurd m
-job_in_one (k ∷ ks) j (inl e) h = ap (λ b. cond b (Some k) (job_in ks j.id)) (eq-eqb k.id j.id (ap (λ (j : Job). j.id) e)) ∙ ap Some e
-job_in_one (k ∷ ks) j (inr m) h =
-    elim (eqb k.id j.id) as (λ b. eqb k.id j.id ≡ b → cond b (Some k) (job_in ks j.id) ≡ Some j) [
+pub job_of_one : (js : List Job) (j : Job) → Member j js → ((k : Job) → Member k js → k.id ≡ j.id → k ≡ j) → job_of js j.id ≡ Some j
+job_of_one [] j m h = absurd m
+job_of_one (k ∷ ks) j (inl e) h = ap (λ b. cond b (Some k) (job_of ks j.id)) (eq-eqb k.id j.id (ap (λ (j : Job). j.id) e)) ∙ ap Some e
+job_of_one (k ∷ ks) j (inr m) h =
+    elim (eqb k.id j.id) as (λ b. eqb k.id j.id ≡ b → cond b (Some k) (job_of ks j.id) ≡ Some j) [
       | true ↦ λ e. ap Some (h k (inl refl) (eqb-true k.id j.id e))
-      | false ↦ λ e. job_in_one ks j m (λ i q. h i (inr q))
+      | false ↦ λ e. job_of_one ks j m (λ i q. h i (inr q))
     ] refl
 
-pub job_in_Mem : (js : List Job) (b : ℕ) (j : Job) → job_in js b ≡ Some j → Member j js × (j.id ≡ b)
-job_in_Mem [] b j e = absurd cc
-job_in_Mem (k ∷ ks) b j e =
-    elim (eqb k.id b) as (λ x. eqb k.id b ≡ x → cond x (Some k) (job_in ks b) ≡ Some j → Member j (k ∷ ks) × (j.id ≡ b)) [
+pub job_of_Mem : (js : List Job) (b : ℕ) (j : Job) → job_of js b ≡ Some j → Member j js × (j.id ≡ b)
+job_of_Mem [] b j e = absurd cc
+job_of_Mem (k ∷ ks) b j e =
+    elim (eqb k.id b) as (λ x. eqb k.id b ≡ x → cond x (Some k) (job_of ks b) ≡ Some j → Member j (k ∷ ks) × (j.id ≡ b)) [
       | true ↦ λ h q. let same : k ≡ j = cc in (inl same, ap (λ (j : Job). j.id) (sym same) ∙ eqb-true k.id b h)
-      | false ↦ λ h q. let r = job_in_Mem ks b j q in (inr r.0, r.1)
+      | false ↦ λ h q. let r = job_of_Mem ks b j q in (inr r.0, r.1)
     ] refl e
 
 -- each cown of a waiting one has a content
@@ -100,7 +105,7 @@ module _ {C : Type 0} (f : Runs C) where
   legal_last w (x ∷ bs) b l h = (l.0, legal_last (done_if f w (ready_job w x)) bs b l.1 h)
 
   pub is_ready_job : (s : World C) → Numbered s → (j : Job) → Member j (ready_jobs s) → ready_job s j.id ≡ Some j
-  is_ready_job s n j m = job_in_one (ready_jobs s) j m (λ k q e. n.unique k j (ready_waits s k q) (ready_waits s j m) e)
+  is_ready_job s n j m = job_of_one (ready_jobs s) j m (λ k q e. n.unique k j (ready_waits s k q) (ready_waits s j m) e)
 
   pub serial_is : ((s : World C) → Reached f s → Numbered s) → (s : World C) → Reached f s → (serial f (order_of s) ≡ s) × IsLegalFrom f first (order_of s)
   serial_is numbered _ at_first = (refl, tt)
@@ -128,10 +133,10 @@ no_cown_of {C} r s g k m c p e =
     kept_at (Some v) h = (v, refl)
 
 -- ---- a further running one's rows
-module _ {C : Type 0} (r : Reading C) (f : Runs C) {w s : World C} (t : Tracks w s) (g : Good r s) (j : Job) (m : Member j w.running) (keeps : Keeps r f j (pick j.cowns s.parked) s.frozen) where
-  pub larger_stays : (k : Job) → Member k w.running → (j.id ≡ k.id → ⊥) → (few : List Row) → Larger r k.id (pick k.cowns s.parked) few s.frozen → Larger r k.id (pick k.cowns s.parked) few (done f s j).frozen
+module _ {C : Type 0} (r : Reading C) (f : Runs C) {s : World C} (g : Good r s) (j : Job) (free : IsFree s j) (keeps : Keeps r f j (pick j.cowns s.parked) s.frozen) where
+  pub larger_stays : (k : Job) → IsFree s k → (j.id ≡ k.id → ⊥) → (few : List Row) → Larger r k.id (pick k.cowns s.parked) few s.frozen → Larger r k.id (pick k.cowns s.parked) few (done f s j).frozen
   larger_stays k q h few l =
-      let mj : Member j s.waiting = (t.ready j m).0 in
+      let mj : Member j s.waiting = free.0 in
       let o : Outcome C = f j (pick j.cowns s.parked) s.frozen in
       record {
         holds = λ n x e. at_insert_rows o.rows s.frozen n (is_false _ (λ b. no_both _ (row_found s.frozen n x (l.holds n x e)) (not_frozen r f s j g mj keeps n (look_rows r f s j g mj keeps n b)))) ∙ l.holds n x e;
@@ -142,17 +147,17 @@ module _ {C : Type 0} (r : Reading C) (f : Runs C) {w s : World C} (t : Tracks w
                 λ p.
                     let z = Member_of_flat_map (λ (x : CownId × C). names_in r x.1) n (pick k.cowns s.parked) p in
                     let y = pick_member k.cowns s.parked z.0 z.1.0 in
-                    not_elsewhere r f s j g mj keeps n source (z.0).0 (z.0).1 y.0 z.1.1 (is_false _ (λ a. disjoint t g.numbered j k m q h (z.0).0 a y.1)),
+                    not_elsewhere r f s j g mj keeps n source (z.0).0 (z.0).1 y.0 z.1.1 (is_false _ (λ a. disjoint s j k free q h (z.0).0 a y.1)),
                 λ b. elim source [
                   | inl p ↦ let y = cond_some (among j.cowns p.cown) (at s.parked p.cown) p.content (sym (at_pick j.cowns s.parked p.cown) ∙ p.there) in
                       let past = g.name_births n (record { cown = p.cown; content = p.content; there = y.1; named = p.named }) in
-                      g.numbered.fresh k past.0 (t.ready k q).0 past.1.0 (past.1.1 ∙ b)
+                      g.numbered.fresh k past.0 q.0 past.1.0 (past.1.1 ∙ b)
                   | inr i ↦ h (sym i ∙ b)
                 ],
               )
           | inr x ↦ l.further n x
         ];
-        no_cown = λ c p b. no_cown_of r (done f s j) (good_after r f s j g mj keeps) k (waits_still k (t.ready k q).0 h) c p b;
+        no_cown = λ c p b. no_cown_of r (done f s j) (good_after r f s j g mj keeps) k (waits_still k q.0 h) c p b;
       }
     where
       waits_still : (k : Job) → Member k s.waiting → (j.id ≡ k.id → ⊥) → WaitsOn k (done f s j)
@@ -168,31 +173,14 @@ module _ {M : Type 0} where
         | false ↦ λ q. inr (run_in_Mem us b u q)
       ] e
 
-  Mem_jobs : (us : List (Run M)) (u : Run M) → Member u us → Member u.job (map (λ (u : Run M). u.job) us)
-  Mem_jobs [] u m = absurd m
-  Mem_jobs (v ∷ us) u (inl e) = inl (ap (λ (u : Run M). u.job) e)
-  Mem_jobs (v ∷ us) u (inr m) = inr (Mem_jobs us u m)
-
-  jobs_filter : (b : ℕ) (us : List (Run M)) → map (λ (u : Run M). u.job) (filter (λ (v : Run M). not (eqb b v.job.id)) us) ≡ filter (other b) (map (λ (u : Run M). u.job) us)
-  jobs_filter b [] = refl
-  jobs_filter b (u ∷ us) =
-      elim (other b u.job) as (λ x. map (λ (u : Run M). u.job) (cond x (u ∷ filter (λ (v : Run M). not (eqb b v.job.id)) us) (filter (λ (v : Run M). not (eqb b v.job.id)) us)) ≡ cond x (u.job ∷ filter (other b) (map (λ (u : Run M). u.job) us)) (filter (other b) (map (λ (u : Run M). u.job) us))) [
-        | true ↦ ap (λ js. u.job ∷ js) (jobs_filter b us)
-        | false ↦ jobs_filter b us
-      ]
-
 -- ---- the events
 module _ {C M : Type 0} (r : Reading C) (f : Runs C) (law : Lawful r f) (mach : Machine C M) (computes : Computes mach f) (budget : ℕ) where
   stepped_job : (b : ℕ) (u : Run M) → (stepped mach b u).job ≡ u.job
   stepped_job b u = elim (eqb u.job.id b && not (mach.is_over u.state)) as (λ x. (cond x (record { job = u.job; frozen = u.frozen; state = mach.step u.state }) u).job ≡ u.job) [ true ↦ refl | false ↦ refl ]
 
-  stepped_jobs : (b : ℕ) (us : List (Run M)) → map (λ (u : Run M). u.job) (map (stepped mach b) us) ≡ map (λ (u : Run M). u.job) us
-  stepped_jobs b [] = refl
-  stepped_jobs b (u ∷ us) = λ i. stepped_job b u i ∷ stepped_jobs b us i
-
   runs_step : (s : World C) (b : ℕ) (u : Run M) → RunsOn mach r f s u → RunsOn mach r f s (stepped mach b u)
   runs_step s b u h = elim (eqb u.job.id b && not (mach.is_over u.state)) as (λ x. RunsOn mach r f s (cond x (record { job = u.job; frozen = u.frozen; state = mach.step u.state }) u)) [
-    | true ↦ record { reached = (suc h.reached.0, ap mach.step h.reached.1); larger = h.larger; origin = h.origin; from = h.from; was_ready = h.was_ready; contents = h.contents; rows = h.rows }
+    | true ↦ record { reached = (suc h.reached.0, ap mach.step h.reached.1); larger = h.larger; free = h.free; origin = h.origin; from = h.from; was_ready = h.was_ready; contents = h.contents; rows = h.rows }
     | false ↦ h
   ]
 
@@ -203,6 +191,7 @@ module _ {C M : Type 0} (r : Reading C) (f : Runs C) (law : Lawful r f) (mach : 
       let new : RunsOn mach r f s run = record {
         reached = (0, λ i. mach.begin j (same_contents k.tracks g.numbered j m i) x.core.frozen);
         larger = record { holds = λ n y e. ap (λ rows. row_at rows n) (sym k.tracks.frozen) ∙ e; further = λ n e. inl (ap (λ rows. has_row rows n) k.tracks.frozen ∙ e); no_cown = no_cown_of r s g j (ready_there k.tracks g.numbered j m).0 };
+        free = ready_there k.tracks g.numbered j m;
         origin = s;
         from = k.reached;
         was_ready = free_ready s j g.numbered.idle (ready_there k.tracks g.numbered j m);
@@ -212,7 +201,14 @@ module _ {C M : Type 0} (r : Reading C) (f : Runs C) (law : Lawful r f) (mach : 
       record {
         reached = k.reached;
         tracks = start_tracks k.tracks g.numbered j m;
-        jobs = ap (λ js. j ∷ js) k.jobs;
+        held = λ u q. elim q [
+          | inl e ↦ subst (λ (v : Run M). Member (holder_of v.job) (with_holder (holder_of j) x.core.running)) e (with_here (holder_of j) x.core.running)
+          | inr y ↦ with_there (holder_of j) (holder_of u.job) x.core.running (k.held u y)
+        ];
+        ran = λ i q. elim (in_with (holder_of j) i x.core.running q) [
+          | inl e ↦ (run, (inl refl, sym e))
+          | inr y ↦ let z = k.ran i y in (z.0, (inr z.1.0, z.1.1))
+        ];
         runs = λ u q. elim q [ inl e ↦ subst (RunsOn mach r f s) e new | inr y ↦ k.runs u y ];
         within = omega arith;
       }
@@ -221,7 +217,13 @@ module _ {C M : Type 0} (r : Reading C) (f : Runs C) (law : Lawful r f) (mach : 
   keep_step x s k b = record {
     reached = k.reached;
     tracks = k.tracks;
-    jobs = stepped_jobs b x.runs ∙ k.jobs;
+    held = λ u q.
+        let v = Member_of_map (stepped mach b) u x.runs q in
+        let same : v.0.job ≡ u.job = sym (stepped_job b v.0) ∙ ap (λ (u : Run M). u.job) v.1.1 in
+        subst (λ (i : Job). Member (holder_of i) x.core.running) same (k.held v.0 v.1.0);
+    ran = λ h q.
+        let v = k.ran h q in
+        (stepped mach b v.0, (Member_map (stepped mach b) v.0 x.runs v.1.0, ap holder_of (stepped_job b v.0) ∙ v.1.1));
     runs = λ u q. let v = Member_of_map (stepped mach b) u x.runs q in subst (RunsOn mach r f s) v.1.1 (runs_step s b v.0 (k.runs v.0 v.1.0));
     within = k.within;
   }
@@ -242,25 +244,31 @@ module _ {C M : Type 0} (r : Reading C) (f : Runs C) (law : Lawful r f) (mach : 
   keep_end x s k u q over =
       let g : Good r s = good r f law s k.reached in
       let j : Job = u.job in
-      let mj : Member j x.core.running = subst (λ js. Member j js) k.jobs (Mem_jobs x.runs u q) in
-      let free : IsFree s j = k.tracks.ready j mj in
+      let mj : Member (holder_of j) x.core.running = k.held u q in
+      let free : IsFree s j = (k.runs u q).free in
       let ready : Member j (ready_jobs s) = free_ready s j g.numbered.idle free in
       let kp : Keeps r f j (pick j.cowns s.parked) s.frozen = (law s j k.reached ready).keeps in
       let fs : Fits s j (f j (pick j.cowns s.parked) s.frozen) = fits r f s j g free.0 kp in
       let is : mach.finish u.state ≡ f j (pick j.cowns s.parked) s.frozen = outcome_is s k.reached u (k.runs u q) over in
       record {
         reached = next_one j k.reached ready;
-        tracks = subst (λ o. Tracks (committed x.core j.id o) (done f s j)) (sym is) (end_tracks k.tracks g.numbered (known_of r s g) j mj (f j (pick j.cowns s.parked) s.frozen) fs);
-        jobs = jobs_filter j.id x.runs ∙ ap (filter (other j.id)) k.jobs;
+        tracks = subst (λ o. Tracks (committed x.core j.id o) (done f s j)) (sym is) (end_tracks k.tracks g.numbered (known_of r s g) j mj free (f j (pick j.cowns s.parked) s.frozen) fs);
+        held = λ v p.
+            let z = Member_of_filter (λ (v : Run M). not (eqb j.id v.job.id)) v x.runs p in
+            in_left x.core.running j.id (holder_of v.job) (k.held v z.0) (eqb-false j.id v.job.id (not_true _ z.1));
+        ran = λ h p.
+            let z = left_is x.core.running j.id h p in
+            let v = k.ran h z.0 in
+            (v.0, (Member_filter (λ (v : Run M). not (eqb j.id v.job.id)) v.0 x.runs v.1.0 (ap not (ne_eqb j.id (v.0).job.id (λ e. z.1 (e ∙ ap (λ (h : Holder). h.id) v.1.1)))), v.1.1));
         runs = λ v p.
             let z = Member_of_filter (λ (v : Run M). not (eqb j.id v.job.id)) v x.runs p in
-            let apart : j.id ≡ v.job.id → ⊥ = other_is j.id v.job z.1 in
-            let mv : Member v.job x.core.running = subst (λ js. Member v.job js) k.jobs (Mem_jobs x.runs v z.0) in
+            let apart : j.id ≡ v.job.id → ⊥ = eqb-false j.id v.job.id (not_true _ z.1) in
             let old = k.runs v z.0 in
-            let same : pick v.job.cowns (done f s j).parked ≡ pick v.job.cowns s.parked = contents_stay k.tracks g.numbered (known_of r s g) j mj (f j (pick j.cowns s.parked) s.frozen) fs v.job mv apart in
+            let same : pick v.job.cowns (done f s j).parked ≡ pick v.job.cowns s.parked = contents_stay k.tracks g.numbered (known_of r s g) j mj free (f j (pick j.cowns s.parked) s.frozen) fs v.job old.free apart in
             record {
               reached = (old.reached.0, old.reached.1 ∙ (λ i. steps mach old.reached.0 (mach.begin v.job (sym same i) v.frozen)));
-              larger = subst (λ c. Larger r v.job.id c v.frozen (done f s j).frozen) (sym same) (larger_stays r f k.tracks g j mj kp v.job mv apart v.frozen old.larger);
+              larger = subst (λ c. Larger r v.job.id c v.frozen (done f s j).frozen) (sym same) (larger_stays r f g j free kp v.job old.free apart v.frozen old.larger);
+              free = free_there k.tracks g.numbered (known_of r s g) j mj free (f j (pick j.cowns s.parked) s.frozen) fs v.job old.free apart;
               origin = old.origin;
               from = old.from;
               was_ready = old.was_ready;
@@ -276,7 +284,7 @@ module _ {C M : Type 0} (r : Reading C) (f : Runs C) (law : Lawful r f) (mach : 
         | None ↦ λ e. (s, k)
         | Some j ↦ λ e.
             let y = cond_some (ltb x.core.started budget) (ready_job x.core b) j e in
-            (s, keep_start x s k j (job_in_Mem (ready_jobs x.core) b j y.1).0 (ltb-true x.core.started budget y.0))
+            (s, keep_start x s k j (job_of_Mem (ready_jobs x.core) b j y.1).0 (ltb-true x.core.started budget y.0))
       ] refl
   keep_event x s k (Step b) = (s, keep_step x s k b)
   keep_event x s k (End b) =
@@ -296,7 +304,8 @@ module _ {C M : Type 0} (r : Reading C) (f : Runs C) (law : Lawful r f) (mach : 
   kept_first = record {
     reached = at_first;
     tracks = record { waiting = refl; parked = λ c. refl; frozen = refl; journal = refl; next = refl; ready = λ j m. absurd m; apart = tt; count = refl };
-    jobs = refl;
+    held = λ u m. absurd m;
+    ran = λ h m. absurd m;
     runs = λ u m. absurd m;
     within = omega arith;
   }

@@ -24,13 +24,16 @@ use Rattle.lf_base.specs.Sets.{Differ, Member}
 use Rattle.lf_base.specs.WellFormed.{field_values}
 use Rattle.lf_base.specs.Names.{cowns_of_value}
 use Rattle.lf_core.specs.declared.journal.Entry.{Entry}
-use Rattle.lf_core.specs.Keyed.{at, among, without, found, pick, keys}
+use Rattle.lf_core.specs.Keyed.{at, without, found, pick, keys}
+use Rattle.lf_queue.specs.Queues.{holder_of, without_holder, with_holder}
+use Rattle.lf_queue.specs.Ready.{among}
 use Rattle.lf_core.specs.Lawful.{Good, HasCown, HasName, IsPast, Keeps, cowns_of_spawns, cowns_of_values, outcome_cowns, outcome_names}
 use Rattle.lf_core.specs.Reading.{Reading, all_cowns_in, all_names_in, cowns_in, names_in, row_cowns}
 use Rattle.lf_core.specs.Tracks.{Numbered, Fits}
-use Rattle.lf_core.specs.World.{Outcome, Runs, World, done, entry_of, numbered, other}
+use Rattle.lf_core.specs.World.{Outcome, Runs, World, done, entry_of, numbered}
 use Rattle.lf_core.proofs.Keyed.{or_at, at_put_all, at_append, at_without, at_pick, among_Member, at_key, cowns_one}
-use Rattle.lf_core.proofs.Tracks.{numbered_from, numbered_unique, other_is}
+use Rattle.lf_core.proofs.Tracks.{numbered_from, numbered_unique}
+use Rattle.lf_core.proofs.Holders.{not_same, other}
 
 -- ---- look-ups and lists
 pub key_there : {C : Type 0} (xs : List (CownId × C)) (c : CownId) (v : C) → at xs c ≡ Some v → Member c (keys xs)
@@ -49,11 +52,11 @@ pick_member [] xs x m = absurd m
 pick_member {C} (c ∷ cs) xs x m = go (λ q. pick_member cs xs x q) (at xs c) refl m
   where
     later : (at xs x.0 ≡ Some (x.1)) × (among cs x.0 ≡ true) → (at xs x.0 ≡ Some (x.1)) × (among (c ∷ cs) x.0 ≡ true)
-    later p = (p.0, elim (same_cown c x.0) as (λ b. cond b true (among cs x.0) ≡ true) [ true ↦ refl | false ↦ p.1 ])
+    later p = (p.0, elim (same_cown c x.0) as (λ b. (b || among cs x.0) ≡ true) [ true ↦ refl | false ↦ p.1 ])
 
     go : (Member x (pick cs xs) → (at xs x.0 ≡ Some (x.1)) × (among cs x.0 ≡ true)) → (o : Option C) → at xs c ≡ o → Member x (found c o ++ pick cs xs) → (at xs x.0 ≡ Some (x.1)) × (among (c ∷ cs) x.0 ≡ true)
     go rec None e q = later (rec q)
-    go rec (Some v) e (inl q) = (ap (at xs) (sym (ap (λ (y : CownId × C). y.0) q)) ∙ e ∙ ap Some (ap (λ (y : CownId × C). y.1) q), ap (λ b. cond b true (among cs x.0)) (cowns_one c x.0 (ap (λ (y : CownId × C). y.0) q)))
+    go rec (Some v) e (inl q) = (ap (at xs) (sym (ap (λ (y : CownId × C). y.0) q)) ∙ e ∙ ap Some (ap (λ (y : CownId × C). y.1) q), ap (λ b. (b || among cs x.0)) (cowns_one c x.0 (ap (λ (y : CownId × C). y.0) q)))
     go rec (Some v) e (inr q) = later (rec q)
 
 -- rows put in at other names don't matter to a look-up
@@ -261,7 +264,7 @@ module _ {C : Type 0} (r : Reading C) (f : Runs C) (s : World C) (j : Job) (g : 
   -- ---- numbers
   waits_after : (i : Job) → Member i after.waiting → (Member i s.waiting × (j.id ≡ i.id → ⊥)) ⊎ Member i (numbered s.next o.spawns)
   waits_after i q = elim (Member_of_append i (filter (other j.id) s.waiting) (numbered s.next o.spawns) q) [
-    | inl x ↦ let y = Member_of_filter (other j.id) i s.waiting x in inl (y.0, other_is j.id i y.1)
+    | inl x ↦ let y = Member_of_filter (other j.id) i s.waiting x in inl (y.0, not_same j.id i y.1)
     | inr x ↦ inr x
   ]
 
@@ -270,7 +273,7 @@ module _ {C : Type 0} (r : Reading C) (f : Runs C) (s : World C) (j : Job) (g : 
 
   numbered_after : Numbered after
   numbered_after = record {
-    idle = ap (λ js. filter (other j.id) (j ∷ js)) g.numbered.idle ∙ ap (λ b. cond (not b) (j ∷ []) []) (eq-eqb j.id j.id refl);
+    idle = ap (λ hs. without_holder (with_holder (holder_of j) hs) j.id) g.numbered.idle ∙ ap (λ b. cond (not b) (holder_of j ∷ []) []) (eq-eqb j.id j.id refl);
     unique = λ a b p q e. elim (waits_after a p) [
       | inl x ↦ elim (waits_after b q) [
         | inl y ↦ g.numbered.unique a b x.0 y.0 e

@@ -1,5 +1,5 @@
 -- Look-ups by cown after each change.
-use Rattle.std.proofs.Common.{◌≡◌, Bool, true, false, cond, not, eqb, ◌&&◌, List, [], ◌∷◌, ◌++◌, Option, Some, None, refl, ap, sym, ◌∙◌, inl, inr}
+use Rattle.std.proofs.Common.{◌≡◌, Bool, true, false, cond, not, eqb, ◌&&◌, ◌||◌, List, [], ◌∷◌, ◌++◌, Option, Some, None, refl, ap, sym, ◌∙◌, inl, inr}
 use Rattle.lf_core.proofs.Tests.{no_both, false_by}
 use Rattle.std.proofs.lemmas.Bool.Decides.{Decides-and, Decides-eqb, Decides-like}
 use Rattle.std.specs.Bool.{Decides}
@@ -7,7 +7,8 @@ use Rattle.std.specs.List.{filter}
 use Rattle.lf_base.specs.declared.ids.CownId.{CownId}
 use Rattle.lf_base.specs.Names.{same_cown}
 use Rattle.lf_base.specs.Sets.{Member}
-use Rattle.lf_core.specs.Keyed.{cown_below, at, put, put_all, among, without, found, pick}
+use Rattle.lf_core.specs.Keyed.{cown_below, at, put, put_all, without, found, pick}
+use Rattle.lf_queue.specs.Ready.{among}
 
 -- ---- cowns
 pub Decides-same_cown : (a b : CownId) → Decides (same_cown a b) (a ≡ b)
@@ -95,7 +96,7 @@ at_pick {C} (c ∷ cs) xs d =
     at_append (found c (at xs c)) (pick cs xs) d
     ∙ ap (λ o. or_at o (at (pick cs xs) d)) (at_found c (at xs c) d)
     ∙ ap (or_at (cond (same_cown c d) (at xs c) None)) (at_pick cs xs d)
-    ∙ elim (same_cown c d) as (λ b. same_cown c d ≡ b → or_at (cond b (at xs c) None) (cond (among cs d) (at xs d) None) ≡ cond (cond b true (among cs d)) (at xs d) None) [
+    ∙ elim (same_cown c d) as (λ b. same_cown c d ≡ b → or_at (cond b (at xs c) None) (cond (among cs d) (at xs d) None) ≡ cond (b || among cs d) (at xs d) None) [
       | true ↦ λ e. rw (cown_is c d e) (elim (among cs d) as (λ b. or_at (at xs d) (cond b (at xs d) None) ≡ at xs d) [ true ↦ or_same (at xs d) | false ↦ or_none (at xs d) ])
       | false ↦ λ e. refl
     ] refl
@@ -103,23 +104,23 @@ at_pick {C} (c ∷ cs) xs d =
 pub pick_same : {C : Type 0} (cs : List CownId) (xs ys : List (CownId × C)) → ((c : CownId) → among cs c ≡ true → at xs c ≡ at ys c) → pick cs xs ≡ pick cs ys
 pick_same [] xs ys h = refl
 pick_same (c ∷ cs) xs ys h =
-    let here : at xs c ≡ at ys c = h c (ap (λ b. cond b true (among cs c)) (cowns_one c c refl)) in
-    let rest : pick cs xs ≡ pick cs ys = pick_same cs xs ys (λ d m. h d (elim (same_cown c d) as (λ b. cond b true (among cs d) ≡ true) [ true ↦ refl | false ↦ m ])) in
+    let here : at xs c ≡ at ys c = h c (ap (λ b. b || among cs c) (cowns_one c c refl)) in
+    let rest : pick cs xs ≡ pick cs ys = pick_same cs xs ys (λ d m. h d (elim (same_cown c d) as (λ b. (b || among cs d) ≡ true) [ true ↦ refl | false ↦ m ])) in
     λ i. found c (here i) ++ rest i
 
 -- ---- membership
 pub among_Member : (cs : List CownId) (c : CownId) → among cs c ≡ true → Member c cs
 among_Member [] c e = cc
 among_Member (d ∷ ds) c e =
-    elim (same_cown d c) as (λ b. same_cown d c ≡ b → cond b true (among ds c) ≡ true → Member c (d ∷ ds)) [
+    elim (same_cown d c) as (λ b. same_cown d c ≡ b → (b || among ds c) ≡ true → Member c (d ∷ ds)) [
       | true ↦ λ h k. inl (cown_is d c h)
       | false ↦ λ h k. inr (among_Member ds c k)
     ] refl e
 
 pub Member_among : (cs : List CownId) (c : CownId) → Member c cs → among cs c ≡ true
 Member_among [] c m = absurd m
-Member_among (d ∷ ds) c (inl e) = ap (λ b. cond b true (among ds c)) (cowns_one d c e)
-Member_among (d ∷ ds) c (inr m) = elim (same_cown d c) as (λ b. cond b true (among ds c) ≡ true) [ true ↦ refl | false ↦ Member_among ds c m ]
+Member_among (d ∷ ds) c (inl e) = ap (λ b. (b || among ds c)) (cowns_one d c e)
+Member_among (d ∷ ds) c (inr m) = elim (same_cown d c) as (λ b. (b || among ds c) ≡ true) [ true ↦ refl | false ↦ Member_among ds c m ]
 
 pub at_key : {C : Type 0} (xs : List (CownId × C)) (c : CownId) (v : C) → at xs c ≡ Some v → Member (c, v) xs
 at_key [] c v e = cc

@@ -11,9 +11,12 @@ use Rattle.lf_base.proofs.ListLemmas.Tests.{none_any}
 use Rattle.lf_core.specs.Lawful.{Lawful, Reached, at_first, next_one}
 use Rattle.lf_core.specs.Orders.{Rises, all_done, first_then, ids, round_then, rounds_from, singles_from}
 use Rattle.lf_core.specs.Reading.{Reading}
-use Rattle.lf_core.specs.World.{IsLegalFrom, Runs, World, blocks, done, done_if, is_ready, meets, numbered, other, ready_job, ready_jobs, serial_from}
-use Rattle.lf_core.proofs.Events.{free_ready, good, job_in_one, ready_waits}
+use Rattle.lf_core.specs.World.{IsLegalFrom, Runs, World, done, done_if, is_ready, numbered, ready_job, ready_jobs, serial_from}
+use Rattle.lf_core.proofs.Events.{free_ready, good, job_of_one, ready_waits}
+use Rattle.lf_core.proofs.Holders.{other}
 use Rattle.lf_core.proofs.Tests.{and_right, not_true}
+use Rattle.lf_core.specs.Tracks.{blocks}
+use Rattle.lf_queue.specs.Ready.{meets}
 
 -- ---- rising lists
 rises_filter : (p : Job → Bool) (js : List Job) → Rises js → Rises (filter p js)
@@ -66,13 +69,13 @@ module _ {C : Type 0} (r : Reading C) (f : Runs C) (law : Lawful r f) where
   its_own : (w : World C) → Reached f w → (j : Job) → Member j (ready_jobs w) → ready_job w j.id ≡ Some j
   its_own w x j m =
       let g = good r f law w x in
-      job_in_one (ready_jobs w) j m (λ k n e. g.numbered.unique k j (ready_waits w k n) (ready_waits w j m) e)
+      job_of_one (ready_jobs w) j m (λ k n e. g.numbered.unique k j (ready_waits w k n) (ready_waits w j m) e)
 
   -- a ready job stays ready while another one is started, run and ended
   pub ready_stays : (w : World C) → Reached f w → (j k : Job) → Member j (ready_jobs w) → Member k (ready_jobs w) → j.id < k.id → Member k (ready_jobs (done f w j))
   ready_stays w x j k m n less =
       free_ready (done f w j) k (good r f law (done f w j) (next_one j x m)).numbered.idle (
-        Member_left k (filter (other j.id) w.waiting) _ (Member_filter (other j.id) k w.waiting (ready_waits w k n) (ap not (differs j.id k.id less))),
+        Member_left k (filter (other j.id) w.waiting) _ (Member_filter (other j.id) k w.waiting (ready_waits w k n) (ap not (differs k.id j.id less))),
         λ i p. elim (Member_of_append i (filter (other j.id) w.waiting) _ p) [
           | inl q ↦ none_any (blocks k) w.waiting (not_true _ (and_right _ _ (Member_of_filter (is_ready w) k w.waiting n).1)) i (Member_of_filter (other j.id) i w.waiting q).0
           | inr q ↦
@@ -82,7 +85,7 @@ module _ {C : Type 0} (r : Reading C) (f : Runs C) (law : Lawful r f) where
         ],
       )
     where
-      differs : (a b : ℕ) → a < b → eqb a b ≡ false
+      differs : (a b : ℕ) → b < a → eqb a b ≡ false
       differs a b l = elim (eqb a b) as (λ t. eqb a b ≡ t → t ≡ false) [ true ↦ λ e. absurd (let z = eqb-true a b e in omega arith) | false ↦ λ e. refl ] refl
 
   next_legal : (w : World C) → Reached f w → (j : Job) → Member j (ready_jobs w) → (bs : List ℕ) → IsLegalFrom f (done f w j) bs → IsLegalFrom f w (j.id ∷ bs)
