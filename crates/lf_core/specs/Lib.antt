@@ -6,3 +6,4 @@ pub mod Lawful
 pub mod Events
 pub mod Tasks
 pub mod Orders
+pub mod Contents

@@ -7,8 +7,10 @@
 #![tactic(auto)]
 
 mod actor;
+mod contents;
 mod journal;
 pub mod laws;
 
 pub use actor::{Actor, Outcome, Task};
+pub use contents::Contents;
 pub use journal::{Entry, Journal};

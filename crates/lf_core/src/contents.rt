@@ -1,0 +1,102 @@
+ghost use Rattle.std.specs.Prelude.{◌≡◌, ◌+◌, ◌≤◌, ◌++◌, ◌∷◌, [], length, true, OnOk};
+ghost use Rattle.std.specs.Vec.{vec_capacity, vec_len};
+ghost use Rattle.lf_base.specs.declared.ids.CownId.{CownId as Cown};
+ghost use Rattle.lf_base.specs.Names.{same_cown};
+ghost use Rattle.lf_base.specs.Sets.{Differ, Member};
+ghost use Rattle.lf_core.specs.Contents.{has_place, kept};
+ghost use Rattle.lf_core.specs.Keyed.{at, pick, put, put_all, without};
+
+use lf_base::{CownId, Held, OutOfMemory};
+use std::alloc::Global;
+use std::collections::BTreeMap;
+
+/// The contents of cowns by rising cown. Each cown that had a content has a place, which stands
+/// empty while a behaviour has the content.
+#[derive(Drop)]
+pub struct Contents<C: Drop> {
+    places: BTreeMap<CownId, Option<C>>,
+}
+
+impl<C: Drop> Contents<C> {
+    // Without contents.
+    pub(crate) fn new(alloc: Global) -> Contents<C>
+        ensures { result.places.entries ≡ [] }
+    {
+        Contents {
+            places: BTreeMap::new(alloc),
+        }
+    }
+
+    // The cown has a place from now on.
+    fn make_place(&mut self, cown: CownId) -> Result<(), OutOfMemory>
+        ensures kept { kept self.new.places.entries ≡ kept self.old.places.entries }
+        ensures place { OnOk result (has_place self.new.places.entries cown ≡ true) }
+        ensures others { (c : Cown) → has_place self.old.places.entries c ≡ true → has_place self.new.places.entries c ≡ true }
+    {
+        if self.places.contains_key(&cown) {
+            return Ok(());
+        }
+        self.places.insert(cown, None)?;
+        Ok(())
+    }
+
+    // Each cown of the list has a place from now on, so that its content can be put in.
+    pub(crate) fn make_places(&mut self, more: &[(CownId, C)]) -> Result<(), OutOfMemory>
+        ensures kept { kept self.new.places.entries ≡ kept self.old.places.entries }
+        ensures places { OnOk result ((x : Cown × C) → Member x more.now → has_place self.new.places.entries x.0 ≡ true) }
+        ensures others { (c : Cown) → has_place self.old.places.entries c ≡ true → has_place self.new.places.entries c ≡ true }
+    {
+        for pair in more {
+            self.make_place(pair.0)?;
+        }
+        Ok(())
+    }
+
+    fn put(&mut self, cown: CownId, content: C)
+        requires { has_place self.old.places.entries cown ≡ true }
+        ensures kept { kept self.new.places.entries ≡ put cown content (kept self.old.places.entries) }
+        ensures places { (c : Cown) → has_place self.new.places.entries c ≡ has_place self.old.places.entries c }
+    {
+        let Some(place) = self.places.get_mut(&cown) else {
+            unreachable!()
+        };
+        *place = Some(content);
+    }
+
+    // Puts these in. Of two under one cown the first one stays.
+    pub(crate) fn put_all(&mut self, more: Held<C>)
+        requires { (x : Cown × C) → Member x more → has_place self.old.places.entries x.0 ≡ true }
+        ensures kept { kept self.new.places.entries ≡ put_all more (kept self.old.places.entries) }
+        ensures places { (c : Cown) → has_place self.new.places.entries c ≡ has_place self.old.places.entries c }
+    {
+        let mut more = more;
+        while let Some((cown, content)) = more.pop() {
+            self.put(cown, content);
+        }
+    }
+
+    // Takes the content of a cown out, where it is there.
+    fn take(&mut self, cown: CownId) -> Option<C>
+        ensures content { result ≡ at (kept self.old.places.entries) cown }
+        ensures kept { kept self.new.places.entries ≡ without (cown ∷ []) (kept self.old.places.entries) }
+    {
+        match self.places.get_mut(&cown) {
+            Some(place) => place.take(),
+            None => None,
+        }
+    }
+
+    // Takes the contents of these cowns out, in their order. They are added to a vector that has room.
+    pub(crate) fn take_all(&mut self, cowns: &[CownId], held: &mut Vec<(CownId, C)>)
+        requires differ { Differ same_cown cowns.now }
+        requires room { vec_len held.old + length cowns.now ≤ vec_capacity held.old }
+        ensures held { held.new.items ≡ held.old.items ++ pick cowns.now (kept self.old.places.entries) }
+        ensures kept { kept self.new.places.entries ≡ without cowns.now (kept self.old.places.entries) }
+    {
+        for cown in cowns {
+            if let Some(content) = self.take(*cown) {
+                held.push_reserved((*cown, content));
+            }
+        }
+    }
+}
