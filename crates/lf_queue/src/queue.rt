@@ -10,7 +10,7 @@ use crate::line::{
     enter_place, join_line, leave_line, mark, reserve_cowns, reserve_jobs, with_one,
 };
 use crate::ready_set::ReadySet;
-use crate::row::{Row, Stage, end_row, range, start_row};
+use crate::row::{Row, Stage, end_row, range, start_row, waiting_job};
 use crate::spot::Spot;
 use lf_base::{CownId, Job, OutOfMemory};
 use std::alloc::Global;
@@ -136,6 +136,17 @@ impl Queue {
             Some(row) => Some(self.rows[row].id),
             None => None,
         }
+    }
+
+    /// The ready job of that number, which waits on.
+    pub fn job(&self, id: u32) -> &Job
+        requires { (job : PlainJob) × (ready_job self.now.waiting self.now.running id ≡ Some job) }
+        ensures { ready_job self.now.waiting self.now.running id ≡ Some result.now }
+    {
+        let Some(&row) = self.places.get(&id) else {
+            unreachable!()
+        };
+        waiting_job(&self.rows, row)
     }
 
     /// Gives the ready job of that number, which runs from now on.

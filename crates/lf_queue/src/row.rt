@@ -35,6 +35,18 @@ pub(crate) fn range(rows: &[Row], row: usize) -> (usize, usize)
     (rows[row].first, rows[row].end)
 }
 
+// The job of a row that waits.
+pub(crate) fn waiting_job(rows: &[Row], row: usize) -> &Job
+    requires within { row < length rows.now }
+    requires waits { (job : PlainJob) × ((row_at rows.now row).stage ≡ Waiting job) }
+    ensures { (row_at rows.now row).stage ≡ Waiting result.now }
+{
+    match &rows[row].stage {
+        Stage::Waiting(job) => job,
+        _ => unreachable!(),
+    }
+}
+
 // The job of a row that waits runs.
 pub(crate) fn start_row(rows: &mut Vec<Row>, row: usize) -> Job
     requires within { row < length rows.old.items }
