@@ -19,7 +19,7 @@ use Rattle.lf_core.specs.Tracks.{blocks}
 use Rattle.lf_queue.specs.Ready.{meets}
 
 -- ---- rising lists
-rises_filter : (p : Job → Bool) (js : List Job) → Rises js → Rises (filter p js)
+pub rises_filter : (p : Job → Bool) (js : List Job) → Rises js → Rises (filter p js)
 rises_filter p [] h = tt
 rises_filter p (j ∷ js) h = elim (p j) as (λ b. Rises (cond b (j ∷ filter p js) (filter p js))) [
   | true ↦ (λ k m. h.0 k (Member_of_filter p k js m).0, rises_filter p js h.1)
@@ -37,19 +37,19 @@ rises_take zero js h = tt
 rises_take (suc n) [] h = tt
 rises_take (suc n) (j ∷ js) h = (λ k m. h.0 k (taken_from n js k m), rises_take n js h.1)
 
-rises_append : (js ks : List Job) → Rises js → Rises ks → ((j k : Job) → Member j js → Member k ks → j.id < k.id) → Rises (js ++ ks)
+pub rises_append : (js ks : List Job) → Rises js → Rises ks → ((j k : Job) → Member j js → Member k ks → j.id < k.id) → Rises (js ++ ks)
 rises_append [] ks h g b = g
 rises_append (j ∷ js) ks h g b = (
   λ k m. elim (Member_of_append k js ks m) [ inl n ↦ h.0 k n | inr n ↦ b j k (inl refl) n ],
   rises_append js ks h.1 g (λ i k m n. b i k (inr m) n),
 )
 
-new_ids : (n : ℕ) (ss : List Spawn) (k : Job) → Member k (numbered n ss) → n ≤ k.id
+pub new_ids : (n : ℕ) (ss : List Spawn) (k : Job) → Member k (numbered n ss) → n ≤ k.id
 new_ids n [] k m = absurd m
 new_ids n (s ∷ ss) k (inl e) = let a = ap (λ (j : Job). j.id) e in omega arith
 new_ids n (s ∷ ss) k (inr m) = let a = new_ids (suc n) ss k m in omega arith
 
-rises_numbered : (n : ℕ) (ss : List Spawn) → Rises (numbered n ss)
+pub rises_numbered : (n : ℕ) (ss : List Spawn) → Rises (numbered n ss)
 rises_numbered n [] = tt
 rises_numbered n (s ∷ ss) = (λ k m. let a = new_ids (suc n) ss k m in omega arith, rises_numbered (suc n) ss)
 

@@ -7,3 +7,5 @@ pub mod Events
 pub mod Tasks
 pub mod Orders
 pub mod Contents
+pub mod Cores
+pub mod CoreViews
