@@ -1,14 +1,15 @@
-ghost use Rattle.std.specs.Prelude.{◌≡◌, ◌+◌, ◌≤◌, ◌++◌, ◌∷◌, [], length, true, OnOk};
+ghost use Rattle.std.specs.Prelude.{◌≡◌, ◌+◌, ◌≤◌, ◌++◌, ◌∷◌, [], None, Some, length, true, MatchOption, OnOk};
 ghost use Rattle.std.specs.Vec.{vec_capacity, vec_len};
 ghost use Rattle.lf_base.specs.declared.ids.CownId.{CownId as Cown};
 ghost use Rattle.lf_base.specs.Names.{same_cown};
 ghost use Rattle.lf_base.specs.Sets.{Differ, Member};
-ghost use Rattle.lf_core.specs.Contents.{has_place, kept};
+ghost use Rattle.lf_core.specs.Contents.{has_place, kept, next_content, start_above};
 ghost use Rattle.lf_core.specs.Keyed.{at, pick, put, put_all, without};
 
 use lf_base::{CownId, Held, OutOfMemory};
 use std::alloc::Global;
 use std::collections::BTreeMap;
+use std::ops::Bound;
 
 /// The contents of cowns by rising cown. Each cown that had a content has a place, which stands
 /// empty while a behaviour has the content.
@@ -25,6 +26,19 @@ impl<C: Drop> Contents<C> {
         Contents {
             places: BTreeMap::new(alloc),
         }
+    }
+
+    /// The cown and the content of the least cown, or of the least one above `after` where one is given.
+    /// None exactly where there is none.
+    pub fn next_above(&self, after: Option<CownId>) -> Option<(CownId, &C)>
+        ensures { MatchOption result (next_content (kept self.now.places.entries) after ≡ None) (λ x. next_content (kept self.now.places.entries) after ≡ Some (x.0, x.1.now)) }
+    {
+        for (cown, place) in self.places.range((first_above(after), Bound::Unbounded)) {
+            if let Some(content) = place {
+                return Some((*cown, content));
+            }
+        }
+        None
     }
 
     // The cown has a place from now on.
@@ -98,5 +112,15 @@ impl<C: Drop> Contents<C> {
                 held.push_reserved((*cown, content));
             }
         }
+    }
+}
+
+// Where the cowns above `after` begin.
+fn first_above(after: Option<CownId>) -> Bound<CownId>
+    ensures { result ≡ start_above after }
+{
+    match after {
+        Some(cown) => Bound::Excluded(cown),
+        None => Bound::Unbounded,
     }
 }

@@ -8,15 +8,15 @@
 
 mod actor;
 mod contents;
-mod core;
 mod ending;
 mod journal;
 pub mod laws;
 mod limits;
 mod log;
+mod run_core;
 
 pub use actor::{Actor, Outcome, Task};
 pub use contents::Contents;
-pub use core::Core;
 pub use journal::{Entry, Journal};
 pub use limits::MOST_BEHAVIOURS;
+pub use run_core::Core;

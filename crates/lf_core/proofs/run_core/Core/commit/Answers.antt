@@ -12,7 +12,7 @@ use Rattle.lf_core.proofs.CoreStates.{ended_state, row_seen}
 use Rattle.lf_core.proofs.Holders.{left_is}
 use Rattle.lf_core.proofs.KeptCores.{ended_keeps}
 use Rattle.lf_queue.specs.Queues.{QueueState, is_running, without_holder}
-use Rattle.lf_core.proofs.core.Core.commit.Goals as goal
+use Rattle.lf_core.proofs.run_core.Core.commit.Goals as goal
 
 pub keep-requires-clause-new : goal.keep-requires-clause-new
 keep-requires-clause-new g c = λ row m.

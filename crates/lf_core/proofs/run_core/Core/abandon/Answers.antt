@@ -2,7 +2,7 @@ use Rattle.std.proofs.Common.{arith, false, subst, sym, true, ◌≡◌}
 use Rattle.lf_core.specs.Cores.{CoreState, is_abandoned}
 use Rattle.lf_core.proofs.KeptCores.{abandoned_keeps, room_for_one}
 use Rattle.lf_queue.specs.Queues.{is_running}
-use Rattle.lf_core.proofs.core.Core.abandon.Goals as goal
+use Rattle.lf_core.proofs.run_core.Core.abandon.Goals as goal
 
 pub push_reserved-requires : goal.push_reserved-requires
 push_reserved-requires g c =

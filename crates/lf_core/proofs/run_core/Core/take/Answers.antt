@@ -10,7 +10,7 @@ use Rattle.lf_core.specs.Reading.{seen}
 use Rattle.lf_core.proofs.CoreStates.{taken_state}
 use Rattle.lf_core.proofs.KeptCores.{started_keeps, waits_of}
 use Rattle.lf_core.proofs.Seen.{pick_seen}
-use Rattle.lf_core.proofs.core.Core.take.Goals as goal
+use Rattle.lf_core.proofs.run_core.Core.take.Goals as goal
 
 pub take_all-requires-clause-differ : goal.take_all-requires-clause-differ
 take_all-requires-clause-differ g c =

@@ -3,7 +3,7 @@ use Rattle.lf_core.specs.Contents.{left_in}
 use Rattle.lf_core.specs.CoreViews.{core_state}
 use Rattle.lf_core.specs.Cores.{CoreState, going}
 use Rattle.lf_core.proofs.KeptCores.{all_going}
-use Rattle.lf_core.proofs.core.Core.running.Goals as goal
+use Rattle.lf_core.proofs.run_core.Core.running.Goals as goal
 
 pub overflow_cast-result : goal.overflow_cast-result
 overflow_cast-result g c = omega (arith, all_going _ _ c.self.invariant, c.self.invariant.running_count, c.self.invariant.within, c.self.invariant.most, c.len.ensures, c.len-2.ensures, c.self.inside.abandoned.ok.0)
