@@ -1,5 +1,5 @@
 -- The state of a core whose parts were changed by its calls.
-use Rattle.std.proofs.Common.{List, [], ap, arith, length, map, refl, reverse, suc, sym, ℕ, ◌++◌, ◌+◌, ◌∙◌, ◌∷◌, ◌≡◌, ◌||◌}
+use Rattle.std.proofs.Common.{List, [], ap, arith, inl, inr, length, map, refl, reverse, suc, sym, ℕ, true, ◌++◌, ◌+◌, ◌∙◌, ◌∷◌, ◌≡◌, ◌||◌}
 use Rattle.std.specs.List.{sum_by}
 use Rattle.std.proofs.lemmas.List.{reverse-append}
 use Rattle.std.proofs.lemmas.List.Sums.{sum_by-append, sum_by-cons}
@@ -10,8 +10,11 @@ use Rattle.lf_base.specs.declared.ids.ObjId.{ObjId}
 use Rattle.lf_base.specs.declared.values.Value.{Value}
 use Rattle.lf_base.specs.FreezeResult.{insert_rows}
 use Rattle.lf_base.specs.Names.{same_name}
-use Rattle.lf_base.specs.Owners.{has_row}
+use Rattle.lf_base.specs.Owners.{has_row, names}
 use Rattle.lf_base.specs.PlainState.{Row}
+use Rattle.lf_base.specs.Sets.{Member}
+use Rattle.lf_base.proofs.NameLemmas.SameNames.{same_name_itself}
+use Rattle.lf_core.proofs.Tests.{or_right}
 use Rattle.lf_core.specs.declared.journal.Entry.{Entry}
 use Rattle.lf_core.specs.CoreViews.{core_state}
 use Rattle.lf_core.specs.Cores.{with_ended, with_started}
@@ -20,7 +23,7 @@ use Rattle.lf_core.specs.Reading.{Parked, seen}
 use Rattle.lf_core.specs.World.{Outcome, numbered}
 use Rattle.lf_core.proofs.Seen.{put_all_seen, without_seen}
 use Rattle.lf_frozen.specs.declared.row.FrozenRow.{FrozenRow}
-use Rattle.lf_frozen.specs.FrozenRows.{as_row, has_frozen_row, with_all_frozen}
+use Rattle.lf_frozen.specs.FrozenRows.{as_row, frozen_names, has_frozen_row, with_all_frozen}
 use Rattle.lf_frozen.proofs.RowLaws.{rows_put}
 use Rattle.lf_queue.specs.Queues as queues
 use Rattle.lf_queue.specs.Queues.{QueueState, without_holder}
@@ -68,6 +71,15 @@ ended_state content rows q q' before after frozen frozen' log log' next next' st
 pub row_seen : (rows : List FrozenRow) (o : ObjId) → has_row (map as_row rows) o ≡ has_frozen_row rows o
 row_seen [] o = refl
 row_seen (x ∷ rows) o = ap (λ b. same_name x.id o || b) (row_seen rows o)
+
+pub names_seen : (rows : List FrozenRow) → names (map as_row rows) ≡ frozen_names rows
+names_seen [] = refl
+names_seen (x ∷ rows) = ap (λ l. x.id ∷ l) (names_seen rows)
+
+pub row_of : (rows : List FrozenRow) (row : FrozenRow) → Member row rows → has_row (map as_row rows) row.id ≡ true
+row_of [] row m = absurd m
+row_of (x ∷ rows) row (inl e) = ap (λ b. b || has_row (map as_row rows) row.id) (ap (λ (y : FrozenRow). same_name y.id row.id) e ∙ same_name_itself row.id)
+row_of (x ∷ rows) row (inr m) = or_right (same_name x.id row.id) (has_row (map as_row rows) row.id) (row_of rows row m)
 
 -- ---- spawns one after another
 pub reversed_last : {X : Type 0} (xs : List X) (x : X) → reverse (xs ++ x ∷ []) ≡ x ∷ reverse xs

@@ -184,7 +184,7 @@ module _ {C M : Type 0} (r : Reading C) (f : Runs C) (law : Lawful r f) (mach : 
     | false ↦ h
   ]
 
-  keep_start : (x : Whole C M) (s : World C) → Kept mach r f budget x s → (j : Job) → Member j (ready_jobs x.core) → x.core.started < budget → Kept mach r f budget (begun mach x (Some j)) s
+  pub keep_start : (x : Whole C M) (s : World C) → Kept mach r f budget x s → (j : Job) → Member j (ready_jobs x.core) → x.core.started < budget → Kept mach r f budget (begun mach x (Some j)) s
   keep_start x s k j m h =
       let g : Good r s = good r f law s k.reached in
       let run : Run M = record { job = j; frozen = x.core.frozen; state = mach.begin j (pick j.cowns x.core.parked) x.core.frozen } in
@@ -229,7 +229,7 @@ module _ {C M : Type 0} (r : Reading C) (f : Runs C) (law : Lawful r f) (mach : 
   }
 
   -- what it hands in is what Serial's next step makes
-  outcome_is : (s : World C) → Reached f s → (u : Run M) → RunsOn mach r f s u → mach.is_over u.state ≡ true → mach.finish u.state ≡ f u.job (pick u.job.cowns s.parked) s.frozen
+  pub outcome_is : (s : World C) → Reached f s → (u : Run M) → RunsOn mach r f s u → mach.is_over u.state ≡ true → mach.finish u.state ≡ f u.job (pick u.job.cowns s.parked) s.frozen
   outcome_is s reach u h over =
       let kp = law h.origin u.job h.from h.was_ready in
       let l : Larger r u.job.id (pick u.job.cowns h.origin.parked) u.frozen s.frozen = subst (λ c. Larger r u.job.id c u.frozen s.frozen) (sym h.contents) h.larger in
@@ -240,7 +240,7 @@ module _ {C M : Type 0} (r : Reading C) (f : Runs C) (law : Lawful r f) (mach : 
       ∙ sym (kp.larger s reach l2)
       ∙ (λ i. f u.job (h.contents i) s.frozen)
 
-  keep_end : (x : Whole C M) (s : World C) → Kept mach r f budget x s → (u : Run M) → Member u x.runs → mach.is_over u.state ≡ true → Kept mach r f budget (ended_by mach x u true) (done f s u.job)
+  pub keep_end : (x : Whole C M) (s : World C) → Kept mach r f budget x s → (u : Run M) → Member u x.runs → mach.is_over u.state ≡ true → Kept mach r f budget (ended_by mach x u true) (done f s u.job)
   keep_end x s k u q over =
       let g : Good r s = good r f law s k.reached in
       let j : Job = u.job in
@@ -300,7 +300,7 @@ module _ {C M : Type 0} (r : Reading C) (f : Runs C) (law : Lawful r f) (mach : 
   keep_events x s k [] = (s, k)
   keep_events x s k (e ∷ es) = let y = keep_event x s k e in keep_events (happens mach budget x e) y.0 y.1 es
 
-  kept_first : Kept mach r f budget first_whole first
+  pub kept_first : Kept mach r f budget first_whole first
   kept_first = record {
     reached = at_first;
     tracks = record { waiting = refl; parked = λ c. refl; frozen = refl; journal = refl; next = refl; ready = λ j m. absurd m; apart = tt; count = refl };

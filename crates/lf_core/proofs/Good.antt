@@ -81,7 +81,7 @@ at_insert_rows (x ∷ xs) ys n h = let p = or_both (same_name x.name n) (has_row
 pub name_member : (os : List ObjId) (n : ObjId) → Member n os → has_name os n ≡ true
 name_member os n m = Member_any (λ p. same_name p n) n os m (same_name_itself n)
 
-differ_tail : (xs ys : List ObjId) → Differ same_name (xs ++ ys) → Differ same_name ys
+pub differ_tail : (xs ys : List ObjId) → Differ same_name (xs ++ ys) → Differ same_name ys
 differ_tail [] ys d = d
 differ_tail (x ∷ xs) ys d = differ_tail xs ys d.1
 

@@ -1,5 +1,5 @@
 -- The next content, as a range of the places begins.
-use Rattle.std.proofs.Common.{◌≡◌, ◌∙◌, ◌++◌, List, [], ◌∷◌, Option, Some, None, ap, Bool, cond, refl, sym, true, false}
+use Rattle.std.proofs.Common.{◌≡◌, ◌∙◌, ◌++◌, List, [], ◌∷◌, Option, Some, None, ap, cond, refl, true, false}
 use Rattle.std.proofs.Math.Bool.{and-true}
 use Rattle.std.specs.List.{find}
 use Rattle.std.specs.BTreeMap.Range.{entries_between, range_contains}

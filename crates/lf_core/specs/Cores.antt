@@ -4,7 +4,9 @@ use Rattle.std.specs.List.{list_any}
 use Rattle.lf_base.specs.declared.behaviours.Job.{Job}
 use Rattle.lf_base.specs.declared.behaviours.Spawn.{Spawn}
 use Rattle.lf_base.specs.declared.limits.TheConstants.{MOST_SPAWNS}
-use Rattle.lf_base.specs.Names.{same_cown}
+use Rattle.lf_base.specs.declared.ids.ObjId.{ObjId}
+use Rattle.lf_base.specs.Names.{same_cown, same_name}
+use Rattle.lf_base.specs.Owners.{has_row, names}
 use Rattle.lf_base.specs.Sets.{Differ, Member}
 use Rattle.lf_core.specs.declared.journal.Entry.{Entry}
 use Rattle.lf_core.specs.declared.limits.TheConstants.{MOST_BEHAVIOURS}
@@ -51,6 +53,14 @@ entry_id e = e.id
 -- how many cowns a spawn names
 abbrev pub cowns_of : Spawn → ℕ
 cowns_of s = length s.cowns
+
+-- a running behaviour may end so
+pub record MayEnd {C : Type 0} (w : World C) (id : ℕ) (done : Outcome C) : Type 0 where
+  pub runs : is_running w.running id ≡ true
+  pub few_spawns : length done.spawns ≤ MOST_SPAWNS
+  pub spawn_cowns : (spawn : Spawn) → Member spawn done.spawns → Differ same_cown spawn.cowns
+  pub row_names : Differ same_name (names done.rows)
+  pub new_rows : (o : ObjId) → has_row done.rows o ≡ true → has_row w.frozen o ≡ false
 
 -- what a core keeps of its world, with room for so many abandoned ones
 pub record KeepsCore (core : CoreState) (room : ℕ) : Type 0 where

@@ -9,3 +9,4 @@ pub mod Orders
 pub mod Contents
 pub mod Cores
 pub mod CoreViews
+pub mod Following

@@ -1,19 +1,15 @@
 ghost use Rattle.std.specs.Prelude.{◌≡◌, ◌↔◌, ◌<◌, ◌≤◌, [], Some, false, length, map, not, slice_get, true, IfErr, IfOk, IsTrue, OnErr, OnOk};
 ghost use Rattle.lf_base.specs.declared.behaviours.Job.{Job as PlainJob};
-ghost use Rattle.lf_base.specs.declared.behaviours.Spawn.{Spawn as PlainSpawn};
-ghost use Rattle.lf_base.specs.declared.limits.TheConstants.{MOST_SPAWNS};
 ghost use Rattle.lf_base.specs.Names.{same_cown};
-ghost use Rattle.lf_base.specs.Owners.{has_row};
-ghost use Rattle.lf_base.specs.Sets.{Differ, Member};
+ghost use Rattle.lf_base.specs.Sets.{Differ};
 ghost use Rattle.lf_core.specs.declared.limits.TheConstants.{MOST_BEHAVIOURS as Most};
 ghost use Rattle.lf_core.specs.Contents.{left_in};
-ghost use Rattle.lf_core.specs.Cores.{going, is_abandoned, new_core, startable, with_abandoned, with_ended, with_started};
+ghost use Rattle.lf_core.specs.Cores.{MayEnd, going, is_abandoned, new_core, startable, with_abandoned, with_ended, with_started};
 ghost use Rattle.lf_core.specs.Keyed.{pick};
 ghost use Rattle.lf_core.specs.Reading.{seen};
 ghost use Rattle.lf_core.specs.Tasks.{outcome_of};
 ghost use Rattle.lf_core.specs.World.{order_of, ready_job};
-ghost use Rattle.lf_frozen.specs.declared.row.FrozenRow.{FrozenRow};
-ghost use Rattle.lf_frozen.specs.FrozenRows.{FrozenNamesDiffer, as_row};
+ghost use Rattle.lf_frozen.specs.FrozenRows.{as_row};
 ghost use Rattle.lf_queue.specs.Queues.{is_running};
 
 use crate::actor::{Outcome, Task};
@@ -112,6 +108,7 @@ impl<C: Stored + Drop> Core<C> {
         requires below { self.old.world.started < self.old.budget }
         requires not_starved { self.old.abandoned ≡ [] }
         ensures job { IfOk result (λ task. ready_job self.old.world id ≡ Some task.job) }
+        ensures cowns { IfOk result (λ task. Differ same_cown task.job.cowns) }
         ensures started { IfOk result (λ task. self.new ≡ with_started task.job self.old) }
         ensures held { IfOk result (λ task. seen C.content C.rows task.held ≡ pick task.job.cowns self.old.world.parked) }
         ensures frozen { IfOk result (λ task. map as_row task.frozen ≡ self.old.world.frozen) }
@@ -138,12 +135,8 @@ impl<C: Stored + Drop> Core<C> {
     /// All memory is taken first. After `OutOfMemory`, which no clause ties to a cause, the core is
     /// as before, and the outcome is handed back.
     pub fn commit(&mut self, done: Outcome<C>) -> Result<(), (Outcome<C>, OutOfMemory)>
-        requires running { is_running self.old.world.running done.id ≡ true }
+        requires fits { MayEnd self.old.world done.id (outcome_of C.content C.rows done) }
         requires not_abandoned { is_abandoned self.old done.id ≡ false }
-        requires few_spawns { length done.spawns ≤ MOST_SPAWNS }
-        requires spawn_cowns { (spawn : PlainSpawn) → Member spawn done.spawns → Differ same_cown spawn.cowns }
-        requires row_names { FrozenNamesDiffer done.rows }
-        requires new_rows { (row : FrozenRow) → Member row done.rows → has_row self.old.world.frozen row.id ≡ false }
         ensures ended { OnOk result (self.new ≡ with_ended done.id (outcome_of C.content C.rows done) self.old) }
         ensures unchanged { OnErr result (self.new ≡ self.old) }
         ensures handed_back { IfErr result (λ e. e.0 ≡ done) }

@@ -1,14 +1,15 @@
 use Rattle.std.proofs.Common.{ap, false, refl, subst, sym, true, ◌++◌, ◌+◌, ◌∙◌, ◌≡◌, length}
 use Rattle.std.specs.Vec.{vec_capacity}
+use Rattle.lf_base.specs.Names.{same_name}
 use Rattle.lf_base.specs.Owners.{has_row}
-use Rattle.lf_base.specs.Sets.{Member}
+use Rattle.lf_base.specs.Sets.{Differ, Member}
 use Rattle.lf_core.specs.declared.ending.Rest.{Rest}
 use Rattle.lf_core.specs.Contents.{kept}
 use Rattle.lf_core.specs.Cores.{CoreState, KeepsCore, is_abandoned, with_ended}
 use Rattle.lf_core.specs.Keyed.{put_all}
 use Rattle.lf_core.specs.Tasks.{outcome_of}
 use Rattle.lf_core.specs.World.{numbered}
-use Rattle.lf_core.proofs.CoreStates.{ended_state, row_seen}
+use Rattle.lf_core.proofs.CoreStates.{ended_state, names_seen, row_of, row_seen}
 use Rattle.lf_core.proofs.Holders.{left_is}
 use Rattle.lf_core.proofs.KeptCores.{ended_keeps}
 use Rattle.lf_queue.specs.Queues.{QueueState, is_running, without_holder}
@@ -16,7 +17,10 @@ use Rattle.lf_core.proofs.run_core.Core.commit.Goals as goal
 
 pub keep-requires-clause-new : goal.keep-requires-clause-new
 keep-requires-clause-new g c = λ row m.
-    sym (row_seen c.self.inside.frozen row.id) ∙ ap (λ (s : CoreState). has_row s.world.frozen row.id) c.self.view_is ∙ c.requires.new_rows row m
+    sym (row_seen c.self.inside.frozen row.id) ∙ ap (λ (s : CoreState). has_row s.world.frozen row.id) c.self.view_is ∙ c.requires.fits.new_rows row.id (row_of c.args.done.rows row m)
+
+pub keep-requires-clause-apart : goal.keep-requires-clause-apart
+keep-requires-clause-apart g c = subst (Differ same_name) (names_seen c.args.done.rows) c.requires.fits.row_names
 
 pub spawn_all-self-inside-requires-clause-above : goal.spawn_all-self-inside-requires-clause-above
 spawn_all-self-inside-requires-clause-above g c =
@@ -47,7 +51,7 @@ returns-clause-ended g c =
 
 pub invariant_of-self-2 : goal.invariant_of-self-2
 invariant_of-self-2 g c =
-    let runs = subst (λ (s : CoreState). is_running s.world.running c.args.done.id ≡ true) (sym c.self.view_is) c.requires.running in
+    let runs = subst (λ (s : CoreState). is_running s.world.running c.args.done.id ≡ true) (sym c.self.view_is) c.requires.fits.runs in
     let on = subst (λ (s : CoreState). is_abandoned s c.args.done.id ≡ false) (sym c.self.view_is) c.requires.not_abandoned in
     subst (λ (s : CoreState). KeepsCore s (vec_capacity c.self.inside.abandoned)) (sym (returns-clause-ended g c ∙ ap (with_ended c.args.done.id (outcome_of g.C.Stored.content g.C.Stored.rows c.args.done)) (sym c.self.view_is)))
-    (ended_keeps _ (vec_capacity c.self.inside.abandoned) c.args.done.id (outcome_of g.C.Stored.content g.C.Stored.rows c.args.done) c.self.invariant runs on c.requires.few_spawns c.requires.spawn_cowns)
+    (ended_keeps _ (vec_capacity c.self.inside.abandoned) c.args.done.id (outcome_of g.C.Stored.content g.C.Stored.rows c.args.done) c.self.invariant runs on c.requires.fits.few_spawns c.requires.fits.spawn_cowns)

@@ -36,3 +36,8 @@ returns-clause-held g c =
     ∙ sym (pick_seen g.C.Stored.content g.C.Stored.rows c.as_slice.result.now (kept c.self.inside.contents.places.entries))
     ∙ ap (λ cs. pick cs (seen g.C.Stored.content g.C.Stored.rows (kept c.self.inside.contents.places.entries))) c.as_slice.ensures
     ∙ ap (λ (s : CoreState). pick c.start-job.result.cowns s.world.parked) c.self.view_is
+
+pub returns-clause-cowns : goal.returns-clause-cowns
+returns-clause-cowns g c =
+    let w = (core_state c.self.inside.queue (left_in g.C.Stored.content g.C.Stored.rows c.self.inside.contents) c.self.inside.frozen c.self.inside.log c.self.inside.next c.self.inside.started c.self.inside.abandoned.items c.self.inside.budget).world in
+    c.self.invariant.cowns_differ c.start-job.result (waits_of w c.args.id c.start-job.result c.start-job.ensures.job)
