@@ -10,3 +10,4 @@ pub mod Contents
 pub mod Cores
 pub mod CoreViews
 pub mod Following
+pub mod Counting

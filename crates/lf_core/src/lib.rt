@@ -7,7 +7,10 @@
 #![tactic(auto)]
 
 mod actor;
+pub mod callers;
 mod contents;
+#[cfg(test)]
+mod core_tests;
 mod ending;
 mod journal;
 pub mod laws;

@@ -1,4 +1,4 @@
-ghost use Rattle.std.specs.Prelude.{◌≡◌, ◌↔◌, ◌<◌, ◌≤◌, [], Some, false, length, map, not, slice_get, true, IfErr, IfOk, IsTrue, OnErr, OnOk};
+ghost use Rattle.std.specs.Prelude.{◌≡◌, ◌↔◌, ◌<◌, ◌≤◌, [], Some, false, length, map, not, slice_get, true, IfErr, IfOk, OnErr, OnOk};
 ghost use Rattle.lf_base.specs.declared.behaviours.Job.{Job as PlainJob};
 ghost use Rattle.lf_base.specs.Names.{same_cown};
 ghost use Rattle.lf_base.specs.Sets.{Differ};
@@ -109,6 +109,7 @@ impl<C: Stored + Drop> Core<C> {
         requires not_starved { self.old.abandoned ≡ [] }
         ensures job { IfOk result (λ task. ready_job self.old.world id ≡ Some task.job) }
         ensures cowns { IfOk result (λ task. Differ same_cown task.job.cowns) }
+        ensures fresh { IfOk result (λ task. is_running self.old.world.running task.job.id ≡ false) }
         ensures started { IfOk result (λ task. self.new ≡ with_started task.job self.old) }
         ensures held { IfOk result (λ task. seen C.content C.rows task.held ≡ pick task.job.cowns self.old.world.parked) }
         ensures frozen { IfOk result (λ task. map as_row task.frozen ≡ self.old.world.frozen) }
@@ -169,7 +170,7 @@ impl<C: Stored + Drop> Core<C> {
 
     /// Whether a behaviour was abandoned.
     pub fn starved(&self) -> bool
-        ensures { IsTrue result ↔ (self.now.abandoned ≡ [] → ⊥) }
+        ensures { (result ≡ false) ↔ (self.now.abandoned ≡ []) }
     {
         !self.abandoned.is_empty()
     }

@@ -10,6 +10,7 @@ use Rattle.lf_core.specs.Reading.{seen}
 use Rattle.lf_core.proofs.CoreStates.{taken_state}
 use Rattle.lf_core.proofs.KeptCores.{started_keeps, waits_of}
 use Rattle.lf_core.proofs.Seen.{pick_seen}
+use Rattle.lf_queue.specs.Queues.{is_running}
 use Rattle.lf_core.proofs.run_core.Core.take.Goals as goal
 
 pub take_all-requires-clause-differ : goal.take_all-requires-clause-differ
@@ -41,3 +42,8 @@ pub returns-clause-cowns : goal.returns-clause-cowns
 returns-clause-cowns g c =
     let w = (core_state c.self.inside.queue (left_in g.C.Stored.content g.C.Stored.rows c.self.inside.contents) c.self.inside.frozen c.self.inside.log c.self.inside.next c.self.inside.started c.self.inside.abandoned.items c.self.inside.budget).world in
     c.self.invariant.cowns_differ c.start-job.result (waits_of w c.args.id c.start-job.result c.start-job.ensures.job)
+
+pub returns-clause-fresh : goal.returns-clause-fresh
+returns-clause-fresh g c =
+    let w = (core_state c.self.inside.queue (left_in g.C.Stored.content g.C.Stored.rows c.self.inside.contents) c.self.inside.frozen c.self.inside.log c.self.inside.next c.self.inside.started c.self.inside.abandoned.items c.self.inside.budget).world in
+    ap (λ (s : CoreState). is_running s.world.running c.start-job.result.id) (sym c.self.view_is) ∙ c.self.invariant.fresh c.start-job.result (waits_of w c.args.id c.start-job.result c.start-job.ensures.job)
