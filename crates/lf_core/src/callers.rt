@@ -1,14 +1,16 @@
 //! A caller that knows a core by its contract alone: behaviours that count.
 
-ghost use Rattle.std.specs.Prelude.{◌≡◌, ◌≤◌, ◌++◌, ◌∷◌, [], false, true, IfOk, OnOk, OnErr};
+ghost use Rattle.std.specs.Prelude.{◌≡◌, ◌≤◌, ◌++◌, ◌∷◌, [], Some, false, length, true, IfOk, MatchOption, OnErr, OnOk};
 ghost use Rattle.lf_base.specs.declared.values.Value.TheVariants.{Int};
 ghost use Rattle.lf_base.specs.Names.{same_cown};
 ghost use Rattle.lf_base.specs.Sets.{Differ};
 ghost use Rattle.lf_core.specs.Counting.{HandsIn};
-ghost use Rattle.lf_core.specs.Cores.{MayEnd, is_abandoned, with_ended};
+ghost use Rattle.lf_base.specs.declared.behaviours.Job.{Job as PlainJob};
+ghost use Rattle.lf_core.specs.declared.limits.TheConstants.{MOST_BEHAVIOURS as Most};
+ghost use Rattle.lf_core.specs.Cores.{MayEnd, going, is_abandoned, new_core, with_ended, with_started};
 ghost use Rattle.lf_core.specs.Reading.{Parked};
 ghost use Rattle.lf_core.specs.Tasks.{outcome_of};
-ghost use Rattle.lf_core.specs.World.{Outcome as PlainOutcome};
+ghost use Rattle.lf_core.specs.World.{Outcome as PlainOutcome, order_of, ready_job};
 ghost use Rattle.lf_queue.specs.Queues.{is_running};
 
 use crate::actor::{Outcome, Task};
@@ -198,7 +200,8 @@ fn end(
 impl CountingCore {
     /// Main waits, and each of the others will have so many turns.
     pub fn new(alloc: Global, budget: u32, turns: i64) -> Result<CountingCore, OutOfMemory>
-        requires { budget ≤ 1000000 }
+        requires { budget ≤ Most }
+        ensures { IfOk result (λ counting. counting.core ≡ new_core budget) }
     {
         Ok(CountingCore {
             core: Core::new(alloc, budget)?,
@@ -208,7 +211,10 @@ impl CountingCore {
 
     /// Runs the ready behaviour at that place to its end. None where no more than so many are ready, or
     /// where one was lost for want of memory.
-    pub fn run_one(&mut self, alloc: Global, at: u32) -> Result<Option<u32>, OutOfMemory> {
+    pub fn run_one(&mut self, alloc: Global, at: u32) -> Result<Option<u32>, OutOfMemory>
+        ensures { IfOk result (λ ran. MatchOption ran (self.new ≡ self.old) (λ id. (job : PlainJob) × ((done : PlainOutcome Parked)
+            × ((ready_job self.old.core.world id ≡ Some job) × (self.new.core ≡ with_ended job.id done (with_started job self.old.core)))))) }
+    {
         if self.core.starved() {
             return Ok(None);
         }
@@ -254,7 +260,11 @@ impl CountingCore {
     }
 
     /// How many were started, how many wait, and how many run.
-    pub fn numbers(&self) -> (u32, u32, u32) {
+    pub fn numbers(&self) -> (u32, u32, u32)
+        ensures started { result.0 ≡ self.now.core.world.started }
+        ensures waiting { result.1 ≡ length self.now.core.world.waiting }
+        ensures running { result.2 ≡ length (going self.now.core) }
+    {
         (
             self.core.started(),
             self.core.waiting(),
@@ -284,7 +294,9 @@ impl CountingCore {
     }
 
     /// The numbers of what was committed.
-    pub fn into_order(self) -> Order {
+    pub fn into_order(self) -> Order
+        ensures { result ≡ order_of self.core.world }
+    {
         self.core.into_order()
     }
 }

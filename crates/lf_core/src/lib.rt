@@ -3,7 +3,12 @@
 //!
 //! It stands on `lf_queue` for who may start, on `lf_frozen` for frozen rows, and on the laws of
 //! rows. It has the definitions of a world of behaviours, of the world in which the behaviours of an
-//! order ran one after the other, and of a lawful actor. It promises what `laws` says of them.
+//! order ran one after the other, and of a lawful actor.
+//!
+//! It promises that each call of `Core` does to its world what its contract says, that a refused
+//! `commit` changes nothing and hands its outcome back, and that only `new`, `take` and `commit` take
+//! memory. `laws` has what was proved of worlds, and that a core whose outcomes are a lawful
+//! actor's is its journal run singly.
 #![tactic(auto)]
 
 mod actor;
