@@ -1,0 +1,9 @@
+pub mod Chains
+pub mod Joins
+pub mod Beheads
+pub mod Parts
+pub mod Counted
+pub mod Finds
+pub mod Cuts
+pub mod Unlinks
+pub mod TwoCells

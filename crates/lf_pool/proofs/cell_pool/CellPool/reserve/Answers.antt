@@ -1,0 +1,6 @@
+use Rattle.std.proofs.Common.{subst, sym}
+use Rattle.lf_pool.specs.Pools.{Chain, PoolView}
+use Rattle.lf_pool.proofs.cell_pool.CellPool.reserve.Goals as goal
+
+pub returns-clause-chains : goal.returns-clause-chains
+returns-clause-chains c d zs z = c.reserve.ensures.chains d zs (subst (λ (t : PoolView _). Chain t d zs) (sym c.self.view_is) z)
