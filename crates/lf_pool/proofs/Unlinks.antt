@@ -1,5 +1,5 @@
 -- A chain in two parts.
-use Rattle.std.proofs.Common.{◌≡◌, ◌≢◌, ℕ, ◌<◌, ◌≤◌, Bool, true, false, cond, not, ◌||◌, List, [], ◌∷◌, ◌++◌, length, Option, Some, None, refl, ap, sym, ◌∙◌, subst}
+use Rattle.std.proofs.Common.{◌≡◌, ◌≢◌, ℕ, ◌<◌, ◌≤◌, Bool, true, false, cond, not, ◌||◌, List, [], ◌∷◌, ◌++◌, length, Option, Some, None, refl, ap, sym, ◌∙◌, subst, arith}
 use Rattle.std.specs.Prelude.{eqb}
 use Rattle.std.proofs.lemmas.Bool.Decides.{Decides-eqb}
 use Rattle.lf_base.specs.declared.links.Link.{Link}
@@ -8,10 +8,10 @@ use Rattle.lf_base.proofs.ListLemmas.LinkedLists.{has-append, without-lacking}
 use Rattle.std.proofs.Math.Bool.{or-true}
 use Rattle.lf_pool.specs.declared.cell.TheConstants.{NONE}
 use Rattle.lf_pool.specs.declared.cell.Cell.{Cell}
-use Rattle.lf_pool.specs.Cells.{Covered, IsChain, IsChainAt, IsParted, link_at}
+use Rattle.lf_pool.specs.Cells.{Covered, IsChain, IsChainAt, IsParted, link_at, node}
 use Rattle.lf_pool.specs.Pools.{AreParts, Chain}
 use Rattle.lf_pool.proofs.Chains.{begins, mid_lacks, same_chain, split}
-use Rattle.lf_pool.proofs.Joins.{some_is}
+use Rattle.lf_pool.proofs.Joins.{chain_in_range, node_is, some_is}
 use Rattle.lf_pool.proofs.Parts.{differs, free_begins, free_lacks, lacks_free}
 
 module _ {T : Type 0} (old : List (Cell T)) (free count c : ℕ) (xs : List ℕ) (p : IsParted old free count) (a : IsChainAt (link_at old) c xs) (apart : eqb c free ≡ false) where
@@ -51,6 +51,13 @@ parts_of cells free count spare p =
         let out = free_lacks (link_at cells) free c xs p.spare.0 z.0 z.1 p.spare.1 p.spare.2 in
         let here : has eqb c p.spare.0 ≡ true = ap (has eqb c) (sym (same_chain (link_at cells) xs p.spare.0 q z.0.0 p.spare.1 h e)) ∙ begins c xs z.0.1 in
         cc
+
+-- the first cell of a chain has the number of a cell
+pub chain_number : {T : Type 0} (cells : List (Cell T)) (free count : ℕ) → IsParted cells free count → (c : ℕ) (xs : List ℕ) → IsChainAt (link_at cells) c xs → node c ≡ Some c
+chain_number cells free count p c xs a =
+    let there = chain_in_range cells xs c a.0 (begins c xs a.1) in
+    let few = p.few in
+    node_is c (omega (arith, there, few))
 
 -- a chain is its first cell and the rest
 pub record Headed (c : ℕ) (xs : List ℕ) : Type 0 where

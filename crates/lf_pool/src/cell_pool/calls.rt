@@ -49,6 +49,7 @@ impl CellPool {
     pub fn take(&mut self, key: Key, value: Value) -> u32
         requires room { 0 < self.old.spare }
         ensures chain { Chain self.new result (result ∷ []) }
+        ensures number { node result ≡ Some result }
         ensures item { item_at self.new.cells result ≡ Some (key, value) }
         ensures others { (d : ℕ) → (zs : List ℕ) → Chain self.old d zs → Chain self.new d zs × (has eqb result zs ≡ false) }
         ensures items { (q : ℕ) → eqb result q ≡ false → item_at self.new.cells q ≡ item_at self.old.cells q }
@@ -149,6 +150,20 @@ impl CellPool {
     pub fn unlink(&mut self, chain: u32, cell: u32) -> Option<u32>
         requires there { (xs : List ℕ) × Chain self.old chain xs × (has eqb cell xs ≡ true) }
         ensures rest { (xs : List ℕ) → Chain self.old chain xs → IsLeft self.new result (without eqb cell xs) }
+        ensures alone { Chain self.new cell (cell ∷ []) }
+        ensures others { (d : ℕ) → (zs : List ℕ) → Chain self.old d zs → d ≢ chain → Chain self.new d zs }
+        ensures items { SameItems self.old.cells self.new.cells }
+        ensures room { self.new.spare ≡ self.old.spare }
+    {
+        as_cell(self.part(chain, cell))
+    }
+
+    /// Takes a cell out of a chain, and gives the first cell of what is left of the
+    /// chain, or `NONE` where it was the only one. The cell is then a chain of its own.
+    #[inline(always)]
+    pub fn part(&mut self, chain: u32, cell: u32) -> u32
+        requires there { (xs : List ℕ) × Chain self.old chain xs × (has eqb cell xs ≡ true) }
+        ensures rest { (xs : List ℕ) → Chain self.old chain xs → IsLeft self.new (node result) (without eqb cell xs) }
         ensures alone { Chain self.new cell (cell ∷ []) }
         ensures others { (d : ℕ) → (zs : List ℕ) → Chain self.old d zs → d ≢ chain → Chain self.new d zs }
         ensures items { SameItems self.old.cells self.new.cells }

@@ -5,7 +5,7 @@ ghost use Rattle.lf_pool.specs.Pools.{AreParts, Chain, IsLeft};
 
 use crate::cell::NONE;
 use crate::fresh::{push_cell, set_item};
-use crate::links::{as_cell, behead, cut, join, next, put_before};
+use crate::links::{behead, cut, join, next, put_before};
 use crate::pool::Pool;
 use lf_base::OutOfMemory;
 use std::alloc::Global;
@@ -85,6 +85,7 @@ impl<T: Copy + Drop> Pool<T> {
     pub fn take(&mut self, item: T) -> u32
         requires room { 0 < self.old.spare }
         ensures chain { Chain self.new result (result ∷ []) }
+        ensures number { node result ≡ Some result }
         ensures item { item_at self.new.cells result ≡ Some item }
         ensures others { (d : ℕ) → (zs : List ℕ) → Chain self.old d zs → Chain self.new d zs × (has eqb result zs ≡ false) }
         ensures items { (q : ℕ) → eqb result q ≡ false → item_at self.new.cells q ≡ item_at self.old.cells q }
@@ -132,19 +133,20 @@ impl<T: Copy + Drop> Pool<T> {
     }
 
     /// Takes a cell out of a chain, and gives the first cell of what is left of the
-    /// chain. The cell is then a chain of its own.
-    pub fn unlink(&mut self, chain: u32, cell: u32) -> Option<u32>
+    /// chain, or `NONE` where it was the only one. The cell is then a chain of its own.
+    #[inline(always)]
+    pub fn unlink(&mut self, chain: u32, cell: u32) -> u32
         requires there { (xs : List ℕ) × Chain self.old chain xs × (has eqb cell xs ≡ true) }
-        ensures rest { (xs : List ℕ) → Chain self.old chain xs → IsLeft self.new result (without eqb cell xs) }
+        ensures rest { (xs : List ℕ) → Chain self.old chain xs → IsLeft self.new (node result) (without eqb cell xs) }
         ensures alone { Chain self.new cell (cell ∷ []) }
         ensures others { (d : ℕ) → (zs : List ℕ) → Chain self.old d zs → d ≢ chain → Chain self.new d zs }
         ensures items { SameItems self.old.cells self.new.cells }
         ensures room { self.new.spare ≡ self.old.spare }
     {
         if cell == chain {
-            return as_cell(behead(&mut self.cells, chain));
+            return behead(&mut self.cells, chain);
         }
         cut(&mut self.cells, chain, cell);
-        Some(chain)
+        chain
     }
 }

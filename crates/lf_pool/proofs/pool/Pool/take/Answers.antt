@@ -1,7 +1,8 @@
-use Rattle.std.proofs.Common.{refl, subst, sym, ◌<◌, ◌∙◌, vec_capacity}
+use Rattle.std.proofs.Common.{arith, refl, subst, sym, ◌<◌, ◌∙◌, vec_capacity}
 use Rattle.std.specs.Prelude.{ℕ, length}
 use Rattle.lf_pool.specs.declared.cell.TheConstants.{NONE}
 use Rattle.lf_pool.specs.Pools.{Chain, PoolView}
+use Rattle.lf_pool.proofs.Joins.{node_is}
 use Rattle.lf_pool.proofs.Parts.{fresh_kept, fresh_lacks, fresh_parted, low_room, some_free, taken_in_range, taken_others, taken_parted}
 use Rattle.lf_pool.proofs.pool.Pool.take.Goals as goal
 
@@ -34,3 +35,15 @@ returns-clause-others g c d zs old =
     let b = c.behead-self-inside in
     let z = subst (λ (p : PoolView _). Chain p d zs) (sym c.self.view_is) old in
     taken_others c.self.inside.cells.items b.new.cells.items c.set_item.new.cells.items c.self.inside.free c.self.inside.free_cells b.result c.self.invariant (some_free c.self.inside.free_cells c.if-self-eq0.false) b.ensures.rest b.ensures.alone b.ensures.others c.set_item.ensures.links (c.set_item.ensures.size ∙ b.ensures.size) d zs z.0 z.1
+
+pub returns-then-self-eq0-clause-number : goal.returns-then-self-eq0-clause-number
+returns-then-self-eq0-clause-number g c =
+    let room = subst (λ (p : PoolView _). 0 < p.spare) (sym c.self.view_is) c.requires.room in
+    node_is c.push_cell.result (subst (λ (n : ℕ). n < NONE) (sym c.push_cell.ensures.at) (low_room c.self.inside.free_cells (length c.self.inside.cells.items) (vec_capacity c.self.inside.cells) c.if-self-eq0.true room))
+
+pub returns-clause-number : goal.returns-clause-number
+returns-clause-number g c =
+    let b = c.behead-self-inside in
+    let there = taken_in_range c.self.inside.cells.items b.new.cells.items b.new.cells.items c.self.inside.free c.self.inside.free_cells b.result c.self.invariant (some_free c.self.inside.free_cells c.if-self-eq0.false) b.ensures.rest b.ensures.alone b.ensures.others (λ _. refl) b.ensures.size in
+    let few = c.self.invariant.few in
+    node_is c.self.inside.free (omega (arith, there, few))

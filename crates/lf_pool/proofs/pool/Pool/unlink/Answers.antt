@@ -6,7 +6,7 @@ use Rattle.lf_pool.specs.Pools.{Chain, PoolView}
 use Rattle.lf_pool.proofs.Chains.{begins}
 use Rattle.lf_pool.proofs.Joins.{some_is}
 use Rattle.lf_pool.proofs.Parts.{elsewhere}
-use Rattle.lf_pool.proofs.Unlinks.{first_parts, headed, later, one_chain, member_live, middle, middle_parts, split_parted, without_first, without_middle}
+use Rattle.lf_pool.proofs.Unlinks.{chain_number, first_parts, headed, later, one_chain, member_live, middle, middle_parts, split_parted, without_first, without_middle}
 use Rattle.lf_pool.proofs.pool.Pool.unlink.Goals as goal
 
 pub invariant_of-self : goal.invariant_of-self
@@ -31,9 +31,9 @@ returns-then-cell-chain-clause-rest g c xs now =
     let r = b.ensures.rest h.rest here in
     record {
       chain = subst (IsChain (link_at b.new.cells.items)) (sym left) r.0;
-      begins = ap (λ t. head_or t None) left ∙ r.1 ∙ sym c.as_cell.ensures;
+      begins = ap (λ t. head_or t None) left ∙ r.1;
       live = λ w e. member_live old c.self.inside.free c.self.inside.free_cells c.args.chain xs c.self.invariant z.0 z.1 w
-          (ap (has eqb w) h.is ∙ later w c.args.chain h.rest (begins w h.rest (r.1 ∙ sym c.as_cell.ensures ∙ e)));
+          (ap (has eqb w) h.is ∙ later w c.args.chain h.rest (begins w h.rest (r.1 ∙ e)));
     }
 
 pub returns-then-cell-chain-clause-others : goal.returns-then-cell-chain-clause-others
@@ -70,8 +70,8 @@ returns-clause-rest g c xs now =
     let left : without eqb c.args.cell xs ≡ (c.args.chain ∷ m.before) ++ m.behind = ap (without eqb c.args.cell) m.is ∙ without_middle c.args.cell (c.args.chain ∷ m.before) m.behind here.differ in
     record {
       chain = subst (IsChain (link_at c.cut.new.cells.items)) (sym left) (c.cut.ensures.rest m.before m.behind here);
-      begins = ap (λ t. head_or t None) left;
-      live = λ w e. ap (λ t. eqb t c.self.inside.free) (sym (some_is c.args.chain w e)) ∙ z.1;
+      begins = ap (λ t. head_or t None) left ∙ sym (chain_number old c.self.inside.free c.self.inside.free_cells c.self.invariant c.args.chain xs z.0);
+      live = λ w e. ap (λ t. eqb t c.self.inside.free) (sym (some_is c.args.chain w (sym (chain_number old c.self.inside.free c.self.inside.free_cells c.self.invariant c.args.chain xs z.0) ∙ e))) ∙ z.1;
     }
 
 pub returns-clause-alone : goal.returns-clause-alone

@@ -1,6 +1,6 @@
 use Rattle.std.proofs.Common.{subst, sym}
 use Rattle.lf_pool.specs.Pools.{Chain, PoolView}
-use Rattle.lf_pool.proofs.cell_pool.CellPool.unlink.Goals as goal
+use Rattle.lf_pool.proofs.cell_pool.CellPool.part.Goals as goal
 
 pub unlink-requires : goal.unlink-requires
 unlink-requires c = record { there = (c.requires.there.0, subst (λ (t : PoolView _). Chain t c.args.chain c.requires.there.0) (sym c.self.view_is) c.requires.there.1, c.requires.there.2) }
