@@ -52,12 +52,16 @@ parts_of cells free count spare p =
         let here : has eqb c p.spare.0 ≡ true = ap (has eqb c) (sym (same_chain (link_at cells) xs p.spare.0 q z.0.0 p.spare.1 h e)) ∙ begins c xs z.0.1 in
         cc
 
--- the first cell of a chain has the number of a cell
-pub chain_number : {T : Type 0} (cells : List (Cell T)) (free count : ℕ) → IsParted cells free count → (c : ℕ) (xs : List ℕ) → IsChainAt (link_at cells) c xs → node c ≡ Some c
-chain_number cells free count p c xs a =
-    let there = chain_in_range cells xs c a.0 (begins c xs a.1) in
+-- a cell of a chain has the number of a cell
+pub member_number : {T : Type 0} (cells : List (Cell T)) (free count : ℕ) → IsParted cells free count → (q : ℕ) (xs : List ℕ) → IsChain (link_at cells) xs → has eqb q xs ≡ true → node q ≡ Some q
+member_number cells free count p q xs a h =
+    let there = chain_in_range cells xs q a h in
     let few = p.few in
-    node_is c (omega (arith, there, few))
+    node_is q (omega (arith, there, few))
+
+-- and so has its first cell
+pub chain_number : {T : Type 0} (cells : List (Cell T)) (free count : ℕ) → IsParted cells free count → (c : ℕ) (xs : List ℕ) → IsChainAt (link_at cells) c xs → node c ≡ Some c
+chain_number cells free count p c xs a = member_number cells free count p c xs a.0 (begins c xs a.1)
 
 -- a chain is its first cell and the rest
 pub record Headed (c : ℕ) (xs : List ℕ) : Type 0 where

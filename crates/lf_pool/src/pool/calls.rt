@@ -139,6 +139,7 @@ impl<T: Copy + Drop> Pool<T> {
         requires there { (xs : List ℕ) × Chain self.old chain xs × (has eqb cell xs ≡ true) }
         ensures rest { (xs : List ℕ) → Chain self.old chain xs → IsLeft self.new (node result) (without eqb cell xs) }
         ensures alone { Chain self.new cell (cell ∷ []) }
+        ensures number { node cell ≡ Some cell }
         ensures others { (d : ℕ) → (zs : List ℕ) → Chain self.old d zs → d ≢ chain → Chain self.new d zs }
         ensures items { SameItems self.old.cells self.new.cells }
         ensures room { self.new.spare ≡ self.old.spare }

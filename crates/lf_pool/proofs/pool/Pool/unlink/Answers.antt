@@ -6,7 +6,7 @@ use Rattle.lf_pool.specs.Pools.{Chain, PoolView}
 use Rattle.lf_pool.proofs.Chains.{begins}
 use Rattle.lf_pool.proofs.Joins.{some_is}
 use Rattle.lf_pool.proofs.Parts.{elsewhere}
-use Rattle.lf_pool.proofs.Unlinks.{chain_number, first_parts, headed, later, one_chain, member_live, middle, middle_parts, split_parted, without_first, without_middle}
+use Rattle.lf_pool.proofs.Unlinks.{chain_number, first_parts, headed, later, one_chain, member_live, member_number, middle, middle_parts, split_parted, without_first, without_middle}
 use Rattle.lf_pool.proofs.pool.Pool.unlink.Goals as goal
 
 pub invariant_of-self : goal.invariant_of-self
@@ -86,3 +86,15 @@ returns-clause-others g c d zs now n =
     let z = subst (λ (t : PoolView _). Chain t c.args.chain xs) (sym c.self.view_is) c.requires.there.1 in
     let y = subst (λ (t : PoolView _). Chain t d zs) (sym c.self.view_is) now in
     ((c.cut.ensures.others zs y.0.0 (elsewhere (link_at c.self.inside.cells.items) c.args.chain d xs zs z.0 y.0 n), y.0.1), y.1)
+
+pub returns-then-cell-chain-clause-number : goal.returns-then-cell-chain-clause-number
+returns-then-cell-chain-clause-number g c =
+    let xs = c.requires.there.0 in
+    let z = subst (λ (t : PoolView _). Chain t c.args.chain xs) (sym c.self.view_is) c.requires.there.1 in
+    member_number c.self.inside.cells.items c.self.inside.free c.self.inside.free_cells c.self.invariant c.args.cell xs z.0.0 c.requires.there.2
+
+pub returns-clause-number : goal.returns-clause-number
+returns-clause-number g c =
+    let xs = c.requires.there.0 in
+    let z = subst (λ (t : PoolView _). Chain t c.args.chain xs) (sym c.self.view_is) c.requires.there.1 in
+    member_number c.self.inside.cells.items c.self.inside.free c.self.inside.free_cells c.self.invariant c.args.cell xs z.0.0 c.requires.there.2
