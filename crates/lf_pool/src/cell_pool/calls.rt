@@ -2,6 +2,7 @@ ghost use Rattle.std.specs.Prelude.{◌≡◌, ◌≢◌, ◌<◌, ◌≤◌, �
 ghost use Rattle.lf_base.specs.Links.{after, has, without};
 ghost use Rattle.lf_base.specs.declared.values.Key.{Key};
 ghost use Rattle.lf_base.specs.declared.values.Value.{Value};
+ghost use Rattle.lf_pool.specs.declared.cell.TheConstants.{NONE};
 ghost use Rattle.lf_pool.specs.Cells.{IsChain, SameItems, item_at, link_at, node};
 ghost use Rattle.lf_pool.specs.Fields.{first_with, is_keyed};
 ghost use Rattle.lf_pool.specs.Pools.{AreParts, Chain, IsLeft};
@@ -50,6 +51,7 @@ impl CellPool {
         requires room { 0 < self.old.spare }
         ensures chain { Chain self.new result (result ∷ []) }
         ensures number { node result ≡ Some result }
+        ensures few { length self.new.cells ≤ NONE }
         ensures item { item_at self.new.cells result ≡ Some (key, value) }
         ensures others { (d : ℕ) → (zs : List ℕ) → Chain self.old d zs → Chain self.new d zs × (has eqb result zs ≡ false) }
         ensures items { (q : ℕ) → eqb result q ≡ false → item_at self.new.cells q ≡ item_at self.old.cells q }
@@ -67,6 +69,7 @@ impl CellPool {
         ensures joined { (xs : List ℕ) → (ys : List ℕ) → Chain self.old chain xs → Chain self.old cell ys → Chain self.new chain (xs ++ ys) }
         ensures others { (d : ℕ) → (zs : List ℕ) → Chain self.old d zs → d ≢ chain → d ≢ cell → Chain self.new d zs }
         ensures items { SameItems self.old.cells self.new.cells }
+        ensures size { length self.new.cells ≡ length self.old.cells }
         ensures room { self.new.spare ≡ self.old.spare }
     {
         self.pool.push_last(chain, cell);

@@ -1,5 +1,6 @@
 ghost use Rattle.std.specs.Prelude.{◌≡◌, ◌≢◌, ◌<◌, ◌≤◌, ◌+◌, ◌++◌, ◌∷◌, [], ℕ, List, OnOk, Some, eqb, false, length, true};
 ghost use Rattle.lf_base.specs.Links.{after, has, without};
+ghost use Rattle.lf_pool.specs.declared.cell.TheConstants.{NONE};
 ghost use Rattle.lf_pool.specs.Cells.{IsChain, SameItems, item_at, link_at, node};
 ghost use Rattle.lf_pool.specs.Pools.{AreParts, Chain, IsLeft};
 
@@ -62,6 +63,7 @@ impl<T: Copy + Drop> Pool<T> {
         ensures joined { (xs : List ℕ) → (ys : List ℕ) → Chain self.old chain xs → Chain self.old cell ys → Chain self.new chain (xs ++ ys) }
         ensures others { (d : ℕ) → (zs : List ℕ) → Chain self.old d zs → d ≢ chain → d ≢ cell → Chain self.new d zs }
         ensures items { SameItems self.old.cells self.new.cells }
+        ensures size { length self.new.cells ≡ length self.old.cells }
         ensures room { self.new.spare ≡ self.old.spare }
     {
         join(&mut self.cells, chain, cell);
@@ -86,6 +88,7 @@ impl<T: Copy + Drop> Pool<T> {
         requires room { 0 < self.old.spare }
         ensures chain { Chain self.new result (result ∷ []) }
         ensures number { node result ≡ Some result }
+        ensures few { length self.new.cells ≤ NONE }
         ensures item { item_at self.new.cells result ≡ Some item }
         ensures others { (d : ℕ) → (zs : List ℕ) → Chain self.old d zs → Chain self.new d zs × (has eqb result zs ≡ false) }
         ensures items { (q : ℕ) → eqb result q ≡ false → item_at self.new.cells q ≡ item_at self.old.cells q }
