@@ -10,6 +10,7 @@ ghost use Rattle.lf_code.specs.Ticked.{Ticked};
 use crate::run_text::Ran;
 use lf_base::{Cowns, Job, OutOfMemory, Values};
 use lf_code::Code;
+use lf_frozen::FrozenMap;
 use lf_graph::Store;
 use lf_heap::Heap;
 use lf_machine::{Ended, Running, laws};
@@ -38,7 +39,7 @@ pub fn run_main<H: Store>(alloc: Global, code: &Code, ticks: u64) -> Result<Ran,
     laws::runs_to_the_result();
     laws::started_behaviours_end();
     let job = main_job(alloc);
-    let heap = Heap::<H>::new(alloc, 0)?;
+    let heap = Heap::<H>::new(alloc, 0, FrozenMap::new(alloc))?;
     let Ok(mut running) = Running::start(alloc, code, &job, heap, ticks) else {
         return Err(OutOfMemory);
     };

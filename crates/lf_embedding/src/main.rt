@@ -1,7 +1,8 @@
 //! A runtime of one's own in small: it makes a region, moves a graph of two objects into
 //! it, is refused a second owner of another region, and reads the counts.
 //!
-//! It stands on `lf_heap`, over the flat store of `lf_graph`. What each call needs is proved
+//! It stands on `lf_heap`, over the flat store of `lf_graph`, and on `lf_frozen` for the
+//! frozen rows that it is given, which are none. What each call needs is proved
 //! from the clauses of the calls before it, so nothing is tested on the way.
 #![tactic(auto)]
 
@@ -9,6 +10,7 @@ ghost use Rattle.std.specs.Prelude.{◌≡◌, ◌<◌, ◌≤◌, IfOk, OnOk};
 ghost use Rattle.lf_embedding.specs.Sizes.{HasSlots};
 
 use lf_base::{Answer, HeapFail, Label, OutOfMemory, Question, Steps, Value};
+use lf_frozen::FrozenMap;
 use lf_graph::{FlatStore, Store};
 use lf_heap::Heap;
 use std::alloc::Global;
@@ -35,7 +37,7 @@ const SECOND: i64 = 2;
 fn new_heap<S: Store>(alloc: Global) -> Result<Heap<S>, OutOfMemory>
     ensures { IfOk result (λ heap. HasSlots heap 4 3) }
 {
-    let mut heap = Heap::new(alloc, 1)?;
+    let mut heap = Heap::new(alloc, 1, FrozenMap::new(alloc))?;
     heap.room(7)?;
     heap.push(None);
     heap.push(None);

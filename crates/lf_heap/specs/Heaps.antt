@@ -1,5 +1,5 @@
 -- What a heap is to contracts, and what it keeps.
-use Rattle.std.specs.Prelude.{List, Option, [], length, ℕ, ◌*◌, ◌+◌, ◌<◌, ◌^◌, ◌≡◌, ◌≤◌}
+use Rattle.std.specs.Prelude.{List, Option, [], length, map, ℕ, ◌*◌, ◌+◌, ◌<◌, ◌^◌, ◌≡◌, ◌≤◌}
 use Rattle.lf_base.specs.declared.questions.Answer.{Answer}
 use Rattle.lf_base.specs.declared.questions.Answer.TheVariants.{Number}
 use Rattle.lf_base.specs.declared.values.Value.{Value}
@@ -7,7 +7,9 @@ use Rattle.lf_base.specs.EdgeLists.{cells}
 use Rattle.lf_base.specs.PlainChanges.{with_slots}
 use Rattle.lf_base.specs.PlainState.{State}
 use Rattle.lf_base.specs.SettledStates.{Settled}
+use Rattle.lf_frozen.specs.FrozenRows.{as_row}
 use Rattle.lf_graph.specs.StoredRows.{CountedRow, plain, rows_by_name}
+use Rattle.lf_heap.specs.declared.frozen.FrozenParts.{FrozenParts}
 use Rattle.lf_regions.specs.declared.region.Region.{Region}
 use Rattle.lf_settle.specs.SettledStates.{IsCounted}
 use Rattle.lf_settle.specs.WorkLists.{WorkList}
@@ -17,9 +19,9 @@ pub record Domain : Type 0 where
   pub state : State
   pub spare : ℕ
 
--- the state that a number of a behaviour, how many objects it has made, a store's rows and slots stand for
-abbrev pub heap_state : ℕ → ℕ → List CountedRow → List (Option Value) → State
-heap_state birth objects rows slots = record {
+-- the state that a number of a behaviour, how many objects it has made, its frozen rows, a store's rows and slots stand for
+abbrev pub heap_state : ℕ → ℕ → FrozenParts → List CountedRow → List (Option Value) → State
+heap_state birth objects frozen rows slots = record {
   birth = birth;
   objects = objects;
   cowns = 0;
@@ -27,8 +29,8 @@ heap_state birth objects rows slots = record {
   slots = slots;
   held = [];
   made = [];
-  given = [];
-  own = [];
+  given = map as_row frozen.given;
+  own = map as_row frozen.own;
 }
 
 -- the store and the table count the edges of the state, which is well-formed, and its slots and other cells are so few that

@@ -1,18 +1,22 @@
 //! A domain as its users see it: each call leaves a state of which all rows stay.
 
-ghost use Rattle.std.specs.Prelude.{◌≡◌, ◌+◌, ◌*◌, ◌-◌, ◌^◌, ◌<◌, ◌≤◌, [], IfOk, OnOk, length};
+ghost use Rattle.std.specs.Prelude.{◌≡◌, ◌+◌, ◌*◌, ◌-◌, ◌^◌, ◌<◌, ◌≤◌, [], IfOk, OnErr, OnOk, length, map};
 ghost use Rattle.lf_base.specs.declared.values.Value.{Value as Item};
 ghost use Rattle.lf_base.specs.Asking.{GivesAnswer, asked};
-ghost use Rattle.lf_base.specs.HeapCalls.{Gives, GivesOrWants, lift_change, load_change, new_object_change, new_region_change};
+ghost use Rattle.lf_base.specs.HeapCalls.{Gives, GivesOrWants, dissolve_change, frozen, lift_change, load_change, merge_change};
+ghost use Rattle.lf_base.specs.HeapCalls.{new_object_change, new_region_change};
 ghost use Rattle.lf_base.specs.HeapCalls.{read_change, take_change, unset_change, write_change};
 ghost use Rattle.lf_base.specs.Operands.{operand, popped, pushed, put_down, slot_below};
 ghost use Rattle.lf_base.specs.PlainChanges.{first_state};
 ghost use Rattle.lf_base.specs.SettledStates.{Settled};
-ghost use Rattle.lf_base.specs.WellFormed.{SlotMayHold};
+ghost use Rattle.lf_base.specs.WellFormed.{MayBeGiven, SlotMayHold};
+ghost use Rattle.lf_frozen.specs.FrozenRows.{as_row};
 ghost use Rattle.lf_heap.specs.Heaps.{FitsInteger, SameRoom};
 
 use crate::parts::Parts;
+use crate::suspects::{MOST_ROWS, watch_rows};
 use lf_base::{Answer, Fault, HeapFail, OutOfMemory, Question, Steps, Value};
+use lf_frozen::FrozenMap;
 use lf_graph::Store;
 use lf_settle::Work;
 use std::alloc::Global;
@@ -45,9 +49,6 @@ impl<S: Store> Model for Heap<S> {
     ghost invariant = { λ h. IsAtRest h.parts.state h.work h.rows };
 }
 
-// The most rows that a heap has room for.
-const MOST_ROWS: usize = 2_305_843_009_213_693_952;
-
 // Makes room for the suspects that there may be with one row more, and gives that number
 // of rows.
 fn watch_one_more(work: &mut Work, rows: usize) -> Result<usize, OutOfMemory>
@@ -61,17 +62,19 @@ fn watch_one_more(work: &mut Work, rows: usize) -> Result<usize, OutOfMemory>
         return Err(OutOfMemory);
     }
     let more = rows + 1;
-    work.reserve(2 * more + 4)?;
+    watch_rows(work, more, 0)?;
     Ok(more)
 }
 
 impl<S: Store> Heap<S> {
-    /// A heap without objects and slots, of the behaviour of that number, or
-    /// `OutOfMemory`.
-    pub fn new(alloc: Global, birth: u32) -> Result<Heap<S>, OutOfMemory>
-        ensures { IfOk result (λ heap. heap.state ≡ first_state birth []) }
+    /// A heap without objects and slots, of the behaviour of that number, which is given
+    /// these frozen rows, or `OutOfMemory`. They must be whole among themselves, and name
+    /// nothing of that birth.
+    pub fn new(alloc: Global, birth: u32, frozen: FrozenMap) -> Result<Heap<S>, OutOfMemory>
+        requires { MayBeGiven birth (map as_row frozen) }
+        ensures { IfOk result (λ heap. heap.state ≡ first_state birth (map as_row frozen)) }
     {
-        let parts = Parts::new(alloc, birth)?;
+        let parts = Parts::new(alloc, birth, frozen)?;
         let mut work = Work::new(alloc);
         work.reserve(4)?;
         Ok(Heap {
@@ -100,6 +103,7 @@ impl<S: Store> Heap<S> {
     }
 
     /// The number of slots.
+    #[inline(always)]
     pub fn slots(&self) -> usize
         ensures { result ≡ length self.now.state.slots }
     {
@@ -108,6 +112,7 @@ impl<S: Store> Heap<S> {
 
     /// Adds a slot, set or unset. It makes two calls on the store, and none for a value
     /// that is no object: no call here does for such a value.
+    #[inline(always)]
     pub fn push(&mut self, v: Option<Value>)
         requires room { 1 ≤ self.old.spare }
         requires may { (u : Item) → v ≡ Some u → SlotMayHold self.old.state u }
@@ -119,6 +124,7 @@ impl<S: Store> Heap<S> {
     }
 
     /// Drops the last slot. It makes four calls on the store at most, but for settling.
+    #[inline(always)]
     pub fn pop<L: Ledger>(&mut self, steps: &mut Steps<L>)
         requires { 1 ≤ length self.old.state.slots }
         ensures state { self.new.state ≡ popped self.old.state }
@@ -130,6 +136,7 @@ impl<S: Store> Heap<S> {
     }
 
     /// The slot so many below the last one; `None` exactly where it is unset.
+    #[inline(always)]
     pub fn top(&self, down: usize) -> Option<Value>
         requires { down < length self.now.state.slots }
         ensures { result ≡ slot_below self.now.state down }
@@ -139,6 +146,7 @@ impl<S: Store> Heap<S> {
 
     /// Pushes a copy of a slot. It is refused where that slot is unset (`Unset`). It makes
     /// two calls on the store at most.
+    #[inline(always)]
     pub fn load(&mut self, at: usize) -> Result<(), Fault>
         requires there { at < length self.old.state.slots }
         requires room { 1 ≤ self.old.spare }
@@ -156,6 +164,7 @@ impl<S: Store> Heap<S> {
 
     /// Moves a slot to a further one and leaves it unset. It is refused where that slot
     /// is unset (`Unset`). It makes no call on the store.
+    #[inline(always)]
     pub fn lift(&mut self, at: usize) -> Result<(), Fault>
         requires there { at < length self.old.state.slots }
         requires room { 1 ≤ self.old.spare }
@@ -172,6 +181,7 @@ impl<S: Store> Heap<S> {
 
     /// Moves the last slot to a place below it. It makes four calls on the store at most, but
     /// for settling.
+    #[inline(always)]
     pub fn put<L: Ledger>(&mut self, at: usize, steps: &mut Steps<L>)
         requires { at + 1 < length self.old.state.slots }
         ensures state { self.new.state ≡ put_down at self.old.state }
@@ -301,6 +311,61 @@ impl<S: Store> Heap<S> {
         let at = self.parts.len() - 2;
         self.parts.replace_slot(at, Some(v), &mut self.work, steps);
         self.parts.drop_slot(&mut self.work, steps);
+        self.parts.settle(&mut self.work, steps);
+        Ok(())
+    }
+
+    /// Merges a region into another one: the last two slots are bridges, and the region of
+    /// the last one goes into that of the other, whose slot is left. It is refused where one of
+    /// them is no bridge (`NotBridge`), then where the last one is owned by a cown or by a region
+    /// other than the first (`Owned`), then where it owns the first one, but not directly
+    /// (`Cycle`). After `OutOfMemory`, which may come at any time, all is as it was. It looks at
+    /// each row that goes a few times; where the last one has an owner, at the rows and fields
+    /// of the first one too, and where the first one has, at what lies below the last one.
+    pub fn merge<L: Ledger>(&mut self, steps: &mut Steps<L>) -> Result<(), HeapFail>
+        requires { 2 ≤ length self.old.state.slots }
+        ensures change { GivesOrWants (merge_change self.old.state) result self.old.state self.new.state }
+        ensures slots { OnOk result (length self.new.state.slots + 1 ≡ length self.old.state.slots) }
+        ensures room { SameRoom self.old self.new }
+    {
+        let into = self.operand(1);
+        let from = self.operand(0);
+        self.parts.merge(into, from, &mut self.work, steps)?;
+        self.parts.drop_slot(&mut self.work, steps);
+        self.parts.settle(&mut self.work, steps);
+        Ok(())
+    }
+
+    /// Dissolves the region of the last slot, which stays: its rows are local then. It is
+    /// refused where that is no bridge (`NotBridge`), and then where the region has an owner
+    /// (`Owned`). After `OutOfMemory`, which may come at any time, all is as it was. It looks
+    /// at each row of the region and at each of its fields a few times.
+    pub fn dissolve<L: Ledger>(&mut self, steps: &mut Steps<L>) -> Result<(), HeapFail>
+        requires { 1 ≤ length self.old.state.slots }
+        ensures change { GivesOrWants (dissolve_change self.old.state) result self.old.state self.new.state }
+        ensures slots { OnOk result (length self.new.state.slots ≡ length self.old.state.slots) }
+        ensures room { SameRoom self.old self.new }
+    {
+        let r = self.operand(0);
+        self.parts.dissolve(r, steps)?;
+        self.parts.settle(&mut self.work, steps);
+        Ok(())
+    }
+
+    /// Freezes what the last slot leads to: the object that it names, with each row every
+    /// row that it points to, and with each bridge all rows of its region. The slot stays. It is
+    /// never refused; after `OutOfMemory`, which may come at any time, all is as it was. It looks
+    /// a few times at each row that freezes and at each of its fields, and at the rows and fields
+    /// of each region that stays without some of its rows.
+    pub fn freeze<L: Ledger>(&mut self, steps: &mut Steps<L>) -> Result<(), OutOfMemory>
+        requires { 1 ≤ length self.old.state.slots }
+        ensures state { OnOk result (self.new.state ≡ frozen self.old.state) }
+        ensures unchanged { OnErr result (self.new.state ≡ self.old.state) }
+        ensures slots { OnOk result (length self.new.state.slots ≡ length self.old.state.slots) }
+        ensures room { SameRoom self.old self.new }
+    {
+        let v = self.operand(0);
+        self.parts.freeze(v, self.rows, &mut self.work, steps)?;
         self.parts.settle(&mut self.work, steps);
         Ok(())
     }

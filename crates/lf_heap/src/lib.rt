@@ -12,9 +12,11 @@
 #![tactic(auto)]
 
 mod access;
+mod frozen;
 mod heap;
 mod openness;
 mod parts;
 mod questions;
+mod suspects;
 
 pub use heap::Heap;

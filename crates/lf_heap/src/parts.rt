@@ -11,37 +11,49 @@ ghost use Rattle.lf_base.specs.Accesses.{field_of, or_no_field, read_refusal, re
 ghost use Rattle.lf_base.specs.Accesses.{store_refusal, store_result};
 ghost use Rattle.lf_base.specs.Asking.{GivesAnswer, answer_to, asked};
 ghost use Rattle.lf_base.specs.Edges.{Edge, Slot, edges_by, slot_targets};
-ghost use Rattle.lf_base.specs.HeapCalls.{making_refusal};
+ghost use Rattle.lf_base.specs.DissolveResult.{dissolve_refusal, dissolve_result};
+ghost use Rattle.lf_base.specs.FreezeResult.{freeze_result};
+ghost use Rattle.lf_base.specs.HeapCalls.{making_refusal, merged_by, on_bridge};
 ghost use Rattle.lf_base.specs.Kept.{kept};
+ghost use Rattle.lf_base.specs.MergeResult.{merge_refusal};
 ghost use Rattle.lf_base.specs.Names.{key_of};
 ghost use Rattle.lf_base.specs.Noticing.{InSlot, Noticed};
 ghost use Rattle.lf_base.specs.Operands.{slot_below, without_last};
+ghost use Rattle.lf_base.specs.Owners.{bridge_of};
 ghost use Rattle.lf_base.specs.PlainChanges.{first_state, next_object, object_result, region_result, slot_at, with_slot, with_slot_at};
 ghost use Rattle.lf_base.specs.PlainState.{Row, State};
 ghost use Rattle.lf_base.specs.SettledStates.{Settled};
 ghost use Rattle.lf_base.specs.Suspects.{Object};
 ghost use Rattle.lf_base.specs.TakeResult.{take_refusal, take_result};
-ghost use Rattle.lf_base.specs.WellFormed.{SlotMayHold};
+ghost use Rattle.lf_base.specs.WellFormed.{MayBeGiven, SlotMayHold};
 ghost use Rattle.lf_base.specs.WriteResult.{write_refusal, write_result};
 ghost use Rattle.lf_barrier.specs.WritePlans.{AnswersAs};
 ghost use Rattle.lf_domain.specs.Counts.{Counts, IsDomain};
 ghost use Rattle.lf_domain.specs.OneEdge.{MayCount};
+ghost use Rattle.lf_frozen.specs.FrozenRows.{as_row};
 ghost use Rattle.lf_graph.specs.RowChanges.{with_new_row};
 ghost use Rattle.lf_graph.specs.StoredRows.{IsNewName, SameByOwner};
 ghost use Rattle.lf_heap.specs.Following.{Follows};
 ghost use Rattle.lf_heap.specs.Heaps.{FitsInteger};
 ghost use Rattle.lf_settle.specs.Drops.{SameCapacity};
+ghost use Rattle.lf_settle.specs.WorkLists.{WorkList};
 
 use crate::access::{Target, access_of};
+use crate::frozen::FrozenParts;
 use crate::questions::{answer, fault_of};
+use crate::suspects::{note, suspect_regions, watch_rows};
 use lf_barrier::{apply_write, plan_write};
 use lf_base::{
     Answer, Fault, HeapFail, Key, MOST_MADE, ObjId, OutOfMemory, Owner, Question, Steps, Value,
 };
-use lf_domain::{count_borrow, target_of};
+use lf_domain::count_borrow;
+use lf_frozen::FrozenMap;
 use lf_graph::Store;
 use lf_regions::RegionTable;
-use lf_settle::{Suspect, Work, drop_field, lose_borrow, settle};
+use lf_settle::{Work, drop_field, lose_borrow, settle};
+use lf_transfer::{
+    Loose, apply_dissolve, apply_freeze, apply_merge, plan_dissolve, plan_freeze, plan_merge,
+};
 use std::alloc::Global;
 use std::marker::{Brand, Model};
 use std::sync::ledger::{Blank, Ledger};
@@ -61,6 +73,7 @@ pub(crate) struct Parts<S: Store> {
     objects: u32,
     // No fewer than the fields of all rows.
     cells: u64,
+    frozen: FrozenParts,
     store: S,
     regions: RegionTable,
     slots: Vec<Option<Value>>,
@@ -74,14 +87,15 @@ impl<S: Store> Model for Parts<S> {
     ghost Value = { Domain };
 
     ghost view = { λ p. record {
-      state = heap_state p.birth p.objects (S.rows p.store) p.slots.items;
+      state = heap_state p.birth p.objects p.frozen (S.rows p.store) p.slots.items;
       spare = min (vec_capacity p.slots) (2 ^ 62) - vec_len p.slots;
     } };
 
-    ghost invariant = { λ p. HasParts (S.rows p.store) p.regions p.cells (heap_state p.birth p.objects (S.rows p.store) p.slots.items) };
+    ghost invariant = { λ p. HasParts (S.rows p.store) p.regions p.cells (heap_state p.birth p.objects p.frozen (S.rows p.store) p.slots.items) };
 }
 
 // Counts a slot's edge by steps that nobody sees.
+#[inline(always)]
 fn count_alone<S: Store, L: Ledger>(
     store: &mut S,
     regions: &mut RegionTable,
@@ -134,21 +148,12 @@ fn answer_alone<S: Store, L: Ledger>(
     answer(store, regions, found, question, v, &mut steps)
 }
 
-// Notes the object of a value, where it has one.
-fn note(work: &mut Work, v: Option<Value>)
-    requires { 1 ≤ work.old.spare }
-    ensures suspects { work.new.suspects ≡ map Object (slot_targets v) ++ work.old.suspects }
-    ensures capacity { SameCapacity work.old work.new }
-{
-    if let Some(o) = target_of(v) {
-        work.push(Suspect::Object(o));
-    }
-}
-
 impl<S: Store> Parts<S> {
-    /// The parts of a domain without objects and slots, or `OutOfMemory`.
-    pub(crate) fn new(alloc: Global, birth: u32) -> Result<Parts<S>, OutOfMemory>
-        ensures { IfOk result (λ parts. parts.state ≡ first_state birth []) }
+    /// The parts of a domain without objects and slots, which is given these frozen rows, or
+    /// `OutOfMemory`.
+    pub(crate) fn new(alloc: Global, birth: u32, given: FrozenMap) -> Result<Parts<S>, OutOfMemory>
+        requires { MayBeGiven birth (map as_row given) }
+        ensures { IfOk result (λ parts. parts.state ≡ first_state birth (map as_row given)) }
     {
         let store = S::new(alloc)?;
         let regions = RegionTable::new(alloc)?;
@@ -156,6 +161,10 @@ impl<S: Store> Parts<S> {
             birth,
             objects: 0,
             cells: 0,
+            frozen: FrozenParts {
+                given,
+                own: FrozenMap::new(alloc),
+            },
             store,
             regions,
             slots: Vec::new(alloc),
@@ -178,6 +187,7 @@ impl<S: Store> Parts<S> {
     }
 
     /// The number of slots.
+    #[inline(always)]
     pub(crate) fn len(&self) -> usize
         ensures { result ≡ length self.now.state.slots }
     {
@@ -185,6 +195,7 @@ impl<S: Store> Parts<S> {
     }
 
     /// The slot at a place.
+    #[inline(always)]
     pub(crate) fn slot(&self, at: usize) -> Option<Value>
         requires { at < length self.now.state.slots }
         ensures { result ≡ slot_at self.now.state.slots at }
@@ -193,6 +204,7 @@ impl<S: Store> Parts<S> {
     }
 
     /// Adds a slot.
+    #[inline(always)]
     pub(crate) fn add_slot(&mut self, v: Option<Value>)
         requires room { 1 ≤ self.old.spare }
         requires may { (u : Item) → v ≡ Some u → SlotMayHold self.old.state u }
@@ -204,6 +216,7 @@ impl<S: Store> Parts<S> {
     }
 
     /// Drops the last slot.
+    #[inline(always)]
     pub(crate) fn drop_slot<L: Ledger>(&mut self, work: &mut Work, steps: &mut Steps<L>)
         requires there { 1 ≤ length self.old.state.slots }
         requires room { 1 ≤ work.old.spare }
@@ -217,6 +230,7 @@ impl<S: Store> Parts<S> {
     }
 
     /// Puts a value in place of a slot's.
+    #[inline(always)]
     pub(crate) fn replace_slot<L: Ledger>(
         &mut self,
         at: usize,
@@ -238,6 +252,7 @@ impl<S: Store> Parts<S> {
     }
 
     /// Moves the last slot to a place below it.
+    #[inline(always)]
     pub(crate) fn move_last<L: Ledger>(&mut self, at: usize, work: &mut Work, steps: &mut Steps<L>)
         requires below { at + 1 < length self.old.state.slots }
         requires room { 1 ≤ work.old.spare }
@@ -253,6 +268,7 @@ impl<S: Store> Parts<S> {
     }
 
     /// Moves a slot to a further one, and leaves it unset.
+    #[inline(always)]
     pub(crate) fn lift_slot(&mut self, at: usize)
         requires there { at < length self.old.state.slots }
         requires room { 1 ≤ self.old.spare }
@@ -265,6 +281,7 @@ impl<S: Store> Parts<S> {
     }
 
     /// Drops the rows that nothing justifies, with all that goes because of them.
+    #[inline(always)]
     pub(crate) fn settle<L: Ledger>(&mut self, work: &mut Work, steps: &mut Steps<L>)
         requires noticed { Noticed self.old.state work.old.suspects }
         requires room { 2 * length self.old.state.rows ≤ work.old.spare }
@@ -353,16 +370,25 @@ impl<S: Store> Parts<S> {
         }
     }
 
+    // The field of an object, mutable or frozen; `None` where the object or the field isn't
+    // there.
+    fn look_up<L: Ledger>(&self, o: ObjId, key: Key, steps: &mut Steps<L>) -> Option<Value>
+        ensures value { result ≡ field_of self.now.state o key }
+        ensures may { IfSome result (λ v. SlotMayHold self.now.state v) }
+    {
+        if self.store.owner(o, steps).is_some() {
+            return self.store.field(o, key, steps);
+        }
+        self.frozen.frozen_field(o, key)
+    }
+
     // The field of an object.
     fn field_of<L: Ledger>(&self, o: ObjId, key: Key, steps: &mut Steps<L>) -> Result<Value, Fault>
         ensures answer { result_err result ≡ or_no_field (field_of self.now.state o key) }
         ensures value { IfOk result (λ v. field_of self.now.state o key ≡ Some v) }
         ensures may { IfOk result (λ v. SlotMayHold self.now.state v) }
     {
-        if self.store.owner(o, steps).is_none() {
-            return Err(Fault::NoField);
-        }
-        match self.store.field(o, key, steps) {
+        match self.look_up(o, key, steps) {
             Some(v) => Ok(v),
             None => Err(Fault::NoField),
         }
@@ -485,6 +511,97 @@ impl<S: Store> Parts<S> {
         self.cells += 1;
         let old = apply_write(&mut self.store, &mut self.regions, plan, steps);
         note(work, old);
+        Ok(())
+    }
+
+    /// Merges the region of the second bridge into that of the first one.
+    pub(crate) fn merge<L: Ledger>(
+        &mut self,
+        a: Value,
+        b: Value,
+        work: &mut Work,
+        steps: &mut Steps<L>,
+    ) -> Result<(), HeapFail>
+        requires room { 1 ≤ work.old.spare }
+        ensures answer { AnswersAs (merge_refusal self.old.state a b) result }
+        ensures state { OnOk result (self.new.state ≡ merged_by (bridge_of self.old.state a) (bridge_of self.old.state b) self.old.state) }
+        ensures follows { OnOk result (Follows self.old.state self.new.state work.old work.new 1) }
+        ensures unchanged { OnErr result (self.new.state ≡ self.old.state) }
+        ensures no_suspect { OnErr result (work.new ≡ work.old) }
+        ensures room { self.new.spare ≡ self.old.spare }
+    {
+        let planned = plan_merge(self.alloc, &mut self.store, &self.regions, a, b, steps);
+        let plan = match planned {
+            Ok(plan) => plan,
+            Err(fail) => return Err(fail),
+        };
+        apply_merge(&mut self.store, &mut self.regions, plan, steps);
+        note(work, Some(b));
+        Ok(())
+    }
+
+    /// Dissolves the region of a bridge that a slot names.
+    pub(crate) fn dissolve<L: Ledger>(
+        &mut self,
+        r: Value,
+        steps: &mut Steps<L>,
+    ) -> Result<(), HeapFail>
+        requires named { (o : Name) → r ≡ Obj o → InSlot self.old.state o }
+        ensures answer { AnswersAs (dissolve_refusal self.old.state r) result }
+        ensures state { OnOk result (self.new.state ≡ on_bridge (bridge_of self.old.state r) (dissolve_result self.old.state) self.old.state) }
+        ensures follows { OnOk result ((work : WorkList) → Follows self.old.state self.new.state work work 0) }
+        ensures unchanged { OnErr result (self.new.state ≡ self.old.state) }
+        ensures room { self.new.spare ≡ self.old.spare }
+    {
+        let planned = plan_dissolve(&mut self.store, &self.regions, r, steps);
+        let plan = match planned {
+            Ok(plan) => plan,
+            Err(fail) => return Err(fail),
+        };
+        apply_dissolve(&mut self.store, &mut self.regions, plan, steps);
+        Ok(())
+    }
+
+    /// Freezes what a value leads to. Room for suspects is made first: for the regions that
+    /// are left bare, and for as many as there may be with so many rows.
+    pub(crate) fn freeze<L: Ledger>(
+        &mut self,
+        v: Value,
+        rows: usize,
+        work: &mut Work,
+        steps: &mut Steps<L>,
+    ) -> Result<(), OutOfMemory>
+        requires few { rows ≤ 2 ^ 61 }
+        ensures state { OnOk result (self.new.state ≡ freeze_result self.old.state v) }
+        ensures noticed { OnOk result (Noticed self.old.state work.old.suspects → Noticed self.new.state work.new.suspects) }
+        ensures no_more { OnOk result (length self.new.state.rows ≤ length self.old.state.rows) }
+        ensures enough { OnOk result (2 * rows + 4 ≤ work.new.spare) }
+        ensures unchanged { OnErr result (self.new.state ≡ self.old.state) }
+        ensures no_suspect { OnErr result (work.new.suspects ≡ work.old.suspects) }
+        ensures no_less { OnErr result (work.old.spare ≤ work.new.spare) }
+        ensures room { self.new.spare ≡ self.old.spare }
+    {
+        let plan = plan_freeze(
+            self.alloc,
+            &self.store,
+            &self.regions,
+            &self.frozen.own,
+            v,
+            steps,
+        )?;
+        let losing = plan.regions();
+        let mut bare = Loose::new(self.alloc);
+        bare.reserve(losing)?;
+        watch_rows(work, rows, losing)?;
+        apply_freeze(
+            &mut self.store,
+            &mut self.regions,
+            &mut self.frozen.own,
+            plan,
+            &mut bare,
+            steps,
+        );
+        suspect_regions(work, bare);
         Ok(())
     }
 

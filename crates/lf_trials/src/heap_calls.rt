@@ -3,6 +3,7 @@
 ghost use Rattle.std.specs.Prelude.{◌≡◌, ◌<◌};
 
 use lf_base::{Fault, HeapFail, OutOfMemory, Steps, Value};
+use lf_frozen::FrozenMap;
 use lf_graph::Store;
 use lf_heap::Heap;
 use std::alloc::Global;
@@ -23,6 +24,9 @@ pub enum HeapCall {
     Read,
     Write,
     Take,
+    Freeze,
+    Merge,
+    Dissolve,
 }
 
 /// Makes a call, and room for a slot before it. Where it needs slots that aren't there, it
@@ -54,6 +58,9 @@ pub fn make_call<S: Store, L: Ledger>(
         HeapCall::Read => read_field(heap, steps),
         HeapCall::Write => write_field(heap, steps),
         HeapCall::Take => take_field(heap, steps),
+        HeapCall::Freeze => freeze_object(heap, steps),
+        HeapCall::Merge => merge_regions(heap, steps),
+        HeapCall::Dissolve => dissolve_region(heap, steps),
     }
 }
 
@@ -129,6 +136,36 @@ fn take_field<S: Store, L: Ledger>(
     Ok(())
 }
 
+fn freeze_object<S: Store, L: Ledger>(
+    heap: &mut Heap<S>,
+    steps: &mut Steps<L>,
+) -> Result<(), HeapFail> {
+    if heap.slots() >= 1 {
+        heap.freeze(steps)?;
+    }
+    Ok(())
+}
+
+fn merge_regions<S: Store, L: Ledger>(
+    heap: &mut Heap<S>,
+    steps: &mut Steps<L>,
+) -> Result<(), HeapFail> {
+    if heap.slots() >= 2 {
+        heap.merge(steps)?;
+    }
+    Ok(())
+}
+
+fn dissolve_region<S: Store, L: Ledger>(
+    heap: &mut Heap<S>,
+    steps: &mut Steps<L>,
+) -> Result<(), HeapFail> {
+    if heap.slots() >= 1 {
+        heap.dissolve(steps)?;
+    }
+    Ok(())
+}
+
 /// A heap after some calls, and the fault of the first one that was refused, which ends
 /// them.
 #[derive(Drop)]
@@ -144,7 +181,7 @@ pub fn heap_after<S: Store, L: Ledger>(
     calls: &[HeapCall],
     steps: &mut Steps<L>,
 ) -> Result<HeapAfter<S>, OutOfMemory> {
-    let mut heap = Heap::new(alloc, 0)?;
+    let mut heap = Heap::new(alloc, 0, FrozenMap::new(alloc))?;
     for _variable in 0..variables {
         heap.room(1)?;
         heap.push(None);

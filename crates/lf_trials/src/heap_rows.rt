@@ -3,7 +3,7 @@
 ghost use Rattle.std.specs.Prelude.{◌≡◌, ◌<◌};
 
 use crate::heap_calls::{HeapCall, heap_after};
-use lf_base::{Answer, Fault, Label, OutOfMemory, Question, Steps, Value};
+use lf_base::{Answer, Fault, Label, ObjId, OutOfMemory, Question, Steps, Value};
 use lf_graph::Store;
 use lf_heap::Heap;
 use std::alloc::Global;
@@ -20,7 +20,7 @@ struct HeapRow {
     asked: &'static [(Question, usize, Result<Answer, Fault>)],
 }
 
-static ROWS: [HeapRow; 14] = [
+static ROWS: [HeapRow; 19] = [
     HeapRow {
         name: "first_sum",
         variables: 1,
@@ -348,6 +348,136 @@ static ROWS: [HeapRow; 14] = [
         fault: Some(Fault::NoField),
         last: Some(Value::Int(1)),
         asked: &[(Question::Refs, 1, Ok(Answer::Number(1)))],
+    },
+    HeapRow {
+        name: "a region goes into its child",
+        variables: 2,
+        calls: &[
+            HeapCall::Region,
+            HeapCall::Put(0),
+            HeapCall::Region,
+            HeapCall::Put(1),
+            HeapCall::Load(0),
+            HeapCall::Number(1),
+            HeapCall::Load(1),
+            HeapCall::Write,
+            HeapCall::Load(1),
+            HeapCall::Load(0),
+            HeapCall::Merge,
+            HeapCall::Pop,
+        ],
+        fault: None,
+        last: Some(Value::Obj(ObjId { birth: 0, seq: 2 })),
+        asked: &[
+            (Question::Owner, 0, Ok(Answer::Label(Label::Region))),
+            (Question::Borrowed, 1, Ok(Answer::Number(2))),
+            (Question::Borrowed, 0, Err(Fault::NotBridge)),
+            (Question::Refs, 1, Ok(Answer::Number(2))),
+        ],
+    },
+    HeapRow {
+        name: "a refused merge leaves its operands",
+        variables: 2,
+        calls: &[
+            HeapCall::Region,
+            HeapCall::Put(0),
+            HeapCall::Object,
+            HeapCall::Put(1),
+            HeapCall::Load(0),
+            HeapCall::Load(1),
+            HeapCall::Merge,
+        ],
+        fault: Some(Fault::NotBridge),
+        last: Some(Value::Obj(ObjId { birth: 0, seq: 2 })),
+        asked: &[
+            (Question::Owner, 1, Ok(Answer::Label(Label::Local))),
+            (Question::Borrowed, 0, Ok(Answer::Number(2))),
+            (Question::Refs, 1, Ok(Answer::Number(2))),
+        ],
+    },
+    HeapRow {
+        name: "a region that is dissolved has local rows",
+        variables: 2,
+        calls: &[
+            HeapCall::Region,
+            HeapCall::Put(0),
+            HeapCall::Object,
+            HeapCall::Put(1),
+            HeapCall::Load(0),
+            HeapCall::Number(1),
+            HeapCall::Load(1),
+            HeapCall::Write,
+            HeapCall::Load(0),
+            HeapCall::Dissolve,
+            HeapCall::Pop,
+        ],
+        fault: None,
+        last: Some(Value::Obj(ObjId { birth: 0, seq: 2 })),
+        asked: &[
+            (Question::Owner, 0, Ok(Answer::Label(Label::Local))),
+            (Question::Owner, 1, Ok(Answer::Label(Label::Local))),
+            (Question::Refs, 1, Ok(Answer::Number(2))),
+            (Question::IsClosed, 0, Err(Fault::NotBridge)),
+        ],
+    },
+    HeapRow {
+        name: "an object of a region is frozen, and read and written then",
+        variables: 2,
+        calls: &[
+            HeapCall::Region,
+            HeapCall::Put(0),
+            HeapCall::Object,
+            HeapCall::Put(1),
+            HeapCall::Load(1),
+            HeapCall::Number(7),
+            HeapCall::Number(42),
+            HeapCall::Write,
+            HeapCall::Load(0),
+            HeapCall::Number(1),
+            HeapCall::Load(1),
+            HeapCall::Write,
+            HeapCall::Load(1),
+            HeapCall::Freeze,
+            HeapCall::Number(7),
+            HeapCall::Read,
+            HeapCall::Load(1),
+            HeapCall::Number(7),
+            HeapCall::Number(0),
+            HeapCall::Write,
+        ],
+        fault: Some(Fault::FrozenWrite),
+        last: Some(Value::Int(0)),
+        asked: &[
+            (Question::Owner, 1, Ok(Answer::Label(Label::Frozen))),
+            (Question::Refs, 1, Err(Fault::Kind)),
+            (Question::Borrowed, 0, Ok(Answer::Number(1))),
+        ],
+    },
+    HeapRow {
+        name: "a frozen bridge takes its region along, and its child is left",
+        variables: 2,
+        calls: &[
+            HeapCall::Region,
+            HeapCall::Put(0),
+            HeapCall::Region,
+            HeapCall::Put(1),
+            HeapCall::Load(0),
+            HeapCall::Number(1),
+            HeapCall::Load(1),
+            HeapCall::Write,
+            HeapCall::Load(1),
+            HeapCall::Freeze,
+            HeapCall::Pop,
+        ],
+        fault: None,
+        last: Some(Value::Obj(ObjId { birth: 0, seq: 2 })),
+        asked: &[
+            (Question::Owner, 0, Ok(Answer::Label(Label::Region))),
+            (Question::Owner, 1, Ok(Answer::Label(Label::Frozen))),
+            (Question::Borrowed, 1, Err(Fault::NotBridge)),
+            (Question::OpenChildren, 0, Ok(Answer::Number(0))),
+            (Question::IsClosed, 0, Ok(Answer::Truth(true))),
+        ],
     },
 ];
 

@@ -2,14 +2,19 @@
 use Rattle.std.proofs.Common.{None, Option, Some, [], ap, arith, length, length-append, refl, ℕ, ◌+◌, ◌-◌, ◌∙◌, ◌∷◌, ◌≡◌, ◌≤◌}
 use Rattle.std.proofs.lemmas.List.{length-take-le}
 use Rattle.lf_base.specs.declared.faults.Fault.{Fault}
+use Rattle.lf_base.specs.declared.ids.ObjId.{ObjId}
 use Rattle.lf_base.specs.declared.values.Key.{Key}
 use Rattle.lf_base.specs.declared.values.Value.{Value}
 use Rattle.lf_base.specs.declared.values.Value.TheVariants as value
 use Rattle.lf_base.specs.Accesses.{read_refusal, read_value, remove_refusal, remove_result, store_refusal, store_result}
-use Rattle.lf_base.specs.HeapCalls.{Done, lift_change, load_change, making_refusal, new_object_change, new_region_change, read_change, take_change, unless_refused, unset_change, unset_refusal, write_change}
+use Rattle.lf_base.specs.DissolveResult.{dissolve_refusal, dissolve_result}
+use Rattle.lf_base.specs.HeapCalls.{Done, dissolve_change, lift_change, load_change, making_refusal, merge_change, merged_by, new_object_change, new_region_change, on_bridge}
+use Rattle.lf_base.specs.HeapCalls.{read_change, take_change, unless_refused, unset_change, unset_refusal, write_change}
 use Rattle.lf_base.specs.Kept.{kept}
+use Rattle.lf_base.specs.MergeResult.{merge_refusal}
 use Rattle.lf_base.specs.Names.{key_of}
 use Rattle.lf_base.specs.Operands.{operand, slot_below, with_last, without_last}
+use Rattle.lf_base.specs.Owners.{bridge_of}
 use Rattle.lf_base.specs.PlainChanges.{next_object, object_result, region_result, slot_at, with_slot, with_slot_at}
 use Rattle.lf_base.specs.PlainState.{State}
 use Rattle.lf_heap.proofs.Calls.OperandSlots.{put_down_length, slots_left}
@@ -85,3 +90,25 @@ slots_written s t h e =
     let many : length left.slots ≡ length s.slots = ap length (slots_stored s (operand s 2) (key_of (operand s 1)) (operand s 0)) in
     let same : length t.slots ≡ length (without_last 3 left).slots = ap length (slots_of (store_refusal s (operand s 2) (operand s 1) (operand s 0)) (without_last 3 left) t e) in
     omega (arith, same, many, fewer left 3 (omega (arith, many, h)))
+
+-- regions that change leave the slots
+pub merged_slots : (a b : Option ObjId) (s : State) → (merged_by a b s).slots ≡ s.slots
+merged_slots (Some a) (Some b) s = refl
+merged_slots (Some a) None s = refl
+merged_slots None b s = refl
+
+pub slots_merged : (s t : State) → 2 ≤ length s.slots → merge_change s ≡ Done t → length t.slots + 1 ≡ length s.slots
+slots_merged s t h e =
+    let left = merged_by (bridge_of s (operand s 1)) (bridge_of s (operand s 0)) s in
+    let many : length left.slots ≡ length s.slots = ap length (merged_slots (bridge_of s (operand s 1)) (bridge_of s (operand s 0)) s) in
+    let same : length t.slots ≡ length (without_last 1 left).slots = ap length (slots_of (merge_refusal s (operand s 1) (operand s 0)) (without_last 1 left) t e) in
+    omega (arith, same, many, fewer left 1 (omega (arith, many, h)))
+
+pub dissolved_slots : (a : Option ObjId) (s : State) → (on_bridge a (dissolve_result s) s).slots ≡ s.slots
+dissolved_slots (Some a) s = refl
+dissolved_slots None s = refl
+
+pub slots_dissolved : (s t : State) → dissolve_change s ≡ Done t → length t.slots ≡ length s.slots
+slots_dissolved s t e =
+    let left = on_bridge (bridge_of s (operand s 0)) (dissolve_result s) s in
+    ap length (slots_of (dissolve_refusal s (operand s 0)) left t e) ∙ ap length (dissolved_slots (bridge_of s (operand s 0)) s)
