@@ -2,33 +2,9 @@
 
 ghost use Rattle.std.specs.Prelude.{◌≡◌, flat_map};
 ghost use Rattle.lf_app.specs.Unbuilt as spec;
-ghost use Rattle.lf_machine.specs.Forms as forms;
 
-use lf_code::{AskName, Body, BuiltName, Code, Instr, Placed};
-
-fn built_runs(name: BuiltName) -> bool
-    ensures { result ≡ forms.built_runs name }
-{
-    matches!(name, BuiltName::Print | BuiltName::Region)
-}
-
-fn ask_runs(name: AskName) -> bool
-    ensures { result ≡ forms.ask_runs name }
-{
-    !matches!(name, AskName::Close)
-}
-
-// Whether an instruction runs today.
-fn runs(instr: &Instr) -> bool
-    ensures { result ≡ forms.runs instr.now }
-{
-    match instr {
-        Instr::Built { name, .. } => built_runs(*name),
-        Instr::Ask { name, .. } => ask_runs(*name),
-        Instr::When { .. } => false,
-        _ => true,
-    }
-}
+use lf_code::{Body, Code, Placed};
+use lf_machine::runs;
 
 // The lesser of two lines, where there are two.
 fn lesser_line(one: Option<u32>, other: Option<u32>) -> Option<u32>

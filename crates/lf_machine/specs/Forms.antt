@@ -5,21 +5,20 @@ use Rattle.lf_code.specs.declared.body.Placed.{Placed}
 use Rattle.lf_code.specs.declared.instr.AskName.{AskName}
 use Rattle.lf_code.specs.declared.instr.AskName.TheVariants.{Close}
 use Rattle.lf_code.specs.declared.instr.BuiltName.{BuiltName}
-use Rattle.lf_code.specs.declared.instr.BuiltName.TheVariants.{Print, Region}
+use Rattle.lf_code.specs.declared.instr.BuiltName.TheVariants.{Cown}
 use Rattle.lf_code.specs.declared.instr.Instr.{Instr}
 use Rattle.lf_code.specs.declared.instr.Instr.TheVariants as instr
 use Rattle.lf_code.specs.CodeStep.{Program}
 
 abbrev pub built_runs : BuiltName → Bool
-built_runs Print = true
-built_runs Region = true
-built_runs _ = false
+built_runs Cown = false
+built_runs _ = true
 
 abbrev pub ask_runs : AskName → Bool
 ask_runs Close = false
 ask_runs _ = true
 
--- all instructions run but a `when`, those that make cowns or freeze, and those that merge, dissolve or close a region
+-- all instructions run but a `when`, those that make cowns, and those that close a region
 abbrev pub runs : Instr → Bool
 runs (instr.Built name count) = built_runs name
 runs (instr.Ask name v) = ask_runs name

@@ -3,6 +3,7 @@
 ghost use Rattle.std.specs.Prelude.{◌≡◌, ◌≤◌, ◌+◌, ◌<◌, length, true};
 ghost use Rattle.lf_base.specs.declared.values.Value.TheVariants as item;
 ghost use Rattle.lf_code.specs.Prints.{built as built_by};
+ghost use Rattle.lf_code.specs.ValidCode.{takes_count};
 ghost use Rattle.lf_machine.specs.Actions.{Tells, action_of};
 ghost use Rattle.lf_machine.specs.Forms.{built_runs, goes_on};
 ghost use Rattle.lf_machine.specs.Standing.{IsReady};
@@ -14,6 +15,7 @@ use lf_graph::Store;
 use std::sync::ledger::Ledger;
 
 // The place of a variable among the slots.
+#[inline(always)]
 fn place_of<S: Store>(progress: &Progress<S>, base: usize, var: u32) -> usize
     requires { base + var < length progress.now.state.slots }
     ensures { result ≡ base + var }
@@ -23,6 +25,7 @@ fn place_of<S: Store>(progress: &Progress<S>, base: usize, var: u32) -> usize
 }
 
 // The value of an integer of an instruction.
+#[inline(always)]
 fn integer(number: &i64) -> Value
     ensures { result ≡ item.Int number.now }
 {
@@ -38,19 +41,22 @@ fn built<S: Store, L: Ledger>(
     steps: &mut Steps<L>,
 ) -> Result<(), HeapFail>
     requires runs { built_runs name ≡ true }
+    requires takes { takes_count name count ≡ true }
     requires there { count ≤ length progress.old.state.slots }
     ensures { Tells (built_by texts.now name count progress.old) result progress.old progress.new }
 {
     match name {
         BuiltName::Print => progress.print(texts, count as usize, steps),
         BuiltName::Region => progress.new_region(),
-        BuiltName::Cown | BuiltName::Freeze | BuiltName::Merge | BuiltName::Dissolve => {
-            unreachable!()
-        }
+        BuiltName::Merge => progress.merge(steps),
+        BuiltName::Dissolve => progress.dissolve(steps),
+        BuiltName::Freeze => progress.freeze(steps),
+        BuiltName::Cown => unreachable!(),
     }
 }
 
 /// Does the action of an instruction in a frame whose first slot has this place.
+#[inline(always)]
 pub(crate) fn act<S: Store, L: Ledger>(
     progress: &mut Progress<S>,
     code: &Code,

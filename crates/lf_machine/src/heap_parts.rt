@@ -69,6 +69,7 @@ pub(crate) fn bring_down<S: Store, L: Ledger>(heap: &mut Heap<S>, at: usize, ste
 }
 
 /// The value of the operand so many below the last one; `None` where it is unset.
+#[inline(always)]
 pub(crate) fn operand<S: Store>(heap: &Heap<S>, down: usize) -> Value
     requires { down + 1 ≤ length heap.now.state.slots }
     ensures { result ≡ operand_of heap.now.state down }

@@ -12,6 +12,7 @@
 
 mod acting;
 mod body_vars;
+mod forms;
 mod frame;
 mod heap_parts;
 pub mod laws;
@@ -21,4 +22,5 @@ mod running;
 mod spelling;
 mod stage;
 
+pub use forms::runs;
 pub use running::{Ended, Running, Stepped};

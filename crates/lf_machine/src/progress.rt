@@ -1,8 +1,8 @@
 //! How far a behaviour is, and what instructions do to that.
 
 ghost use Rattle.std.specs.Prelude.{◌≡◌, ◌≤◌, ◌<◌, ◌+◌, [], Some, length, true};
-ghost use Rattle.lf_base.specs.HeapCalls.{lift_change, load_change, new_object_change, new_region_change, read_change, take_change};
-ghost use Rattle.lf_base.specs.HeapCalls.{unset_change, write_change};
+ghost use Rattle.lf_base.specs.HeapCalls.{dissolve_change, frozen, lift_change, load_change, merge_change, new_object_change};
+ghost use Rattle.lf_base.specs.HeapCalls.{new_region_change, read_change, take_change, unset_change, write_change};
 ghost use Rattle.lf_base.specs.Operands.{operand as operand_of, put_down};
 ghost use Rattle.lf_code.specs.Actions as spec;
 ghost use Rattle.lf_code.specs.Asks as asks;
@@ -100,6 +100,7 @@ impl<S: Store> Progress<S> {
     }
 
     /// Takes a tick. It is refused where none is left (`OutOfTicks`).
+    #[inline(always)]
     pub(crate) fn tick(&mut self) -> Result<(), HeapFail>
         ensures { Tells (spec.tick self.old) result self.old self.new }
     {
@@ -111,6 +112,7 @@ impl<S: Store> Progress<S> {
     }
 
     /// Pushes a value that names nothing.
+    #[inline(always)]
     pub(crate) fn push(&mut self, v: Value) -> Result<(), HeapFail>
         requires { IsPlain v }
         ensures { Tells (spec.push_value v self.old) result self.old self.new }
@@ -121,6 +123,7 @@ impl<S: Store> Progress<S> {
     }
 
     /// Pushes a copy of a slot. It is refused where that is unset (`Unset`).
+    #[inline(always)]
     pub(crate) fn load(&mut self, at: usize) -> Result<(), HeapFail>
         requires { at < length self.old.state.slots }
         ensures { Tells (on_state (load_change at) self.old) result self.old self.new }
@@ -131,6 +134,7 @@ impl<S: Store> Progress<S> {
     }
 
     /// Pushes a slot and unsets it. It is refused where that is unset (`Unset`).
+    #[inline(always)]
     pub(crate) fn lift(&mut self, at: usize) -> Result<(), HeapFail>
         requires { at < length self.old.state.slots }
         ensures { Tells (on_state (lift_change at) self.old) result self.old self.new }
@@ -141,6 +145,7 @@ impl<S: Store> Progress<S> {
     }
 
     /// Moves the last operand to a slot below it.
+    #[inline(always)]
     pub(crate) fn put<L: Ledger>(&mut self, at: usize, steps: &mut Steps<L>) -> Result<(), HeapFail>
         requires { at + 1 < length self.old.state.slots }
         ensures { Tells (to_state (put_down at) self.old) result self.old self.new }
@@ -204,7 +209,34 @@ impl<S: Store> Progress<S> {
         Ok(())
     }
 
+    /// Freezes what the last operand leads to.
+    pub(crate) fn freeze<L: Ledger>(&mut self, steps: &mut Steps<L>) -> Result<(), HeapFail>
+        requires { 1 ≤ length self.old.state.slots }
+        ensures { Tells (to_state frozen self.old) result self.old self.new }
+    {
+        self.heap.freeze(steps)?;
+        Ok(())
+    }
+
+    /// Merges the region of the last operand into that of the one below it. It is refused as
+    /// the heap's merge is.
+    pub(crate) fn merge<L: Ledger>(&mut self, steps: &mut Steps<L>) -> Result<(), HeapFail>
+        requires { 2 ≤ length self.old.state.slots }
+        ensures { Tells (on_state merge_change self.old) result self.old self.new }
+    {
+        self.heap.merge(steps)
+    }
+
+    /// Dissolves the region of the last operand. It is refused as the heap's dissolving is.
+    pub(crate) fn dissolve<L: Ledger>(&mut self, steps: &mut Steps<L>) -> Result<(), HeapFail>
+        requires { 1 ≤ length self.old.state.slots }
+        ensures { Tells (on_state dissolve_change self.old) result self.old self.new }
+    {
+        self.heap.dissolve(steps)
+    }
+
     /// An operator on the last operand. It is refused as the operator is.
+    #[inline(always)]
     pub(crate) fn unary<L: Ledger>(
         &mut self,
         op: Prefix,
@@ -220,6 +252,7 @@ impl<S: Store> Progress<S> {
     }
 
     /// An operator on the last two operands. It is refused as the operator is.
+    #[inline(always)]
     pub(crate) fn binary<L: Ledger>(&mut self, op: Op, steps: &mut Steps<L>) -> Result<(), HeapFail>
         requires { 2 ≤ length self.old.state.slots }
         ensures { Tells (on_state (spec.binary_change op) self.old) result self.old self.new }
@@ -232,6 +265,7 @@ impl<S: Store> Progress<S> {
     }
 
     /// The truth value that the last operand is.
+    #[inline(always)]
     pub(crate) fn last_truth(&self) -> Option<bool>
         requires { 1 ≤ length self.now.state.slots }
         ensures { result ≡ spec.last_truth self.now }
@@ -243,6 +277,7 @@ impl<S: Store> Progress<S> {
     }
 
     /// Refused where the last operand is no truth value (`Kind`).
+    #[inline(always)]
     pub(crate) fn test(&mut self) -> Result<(), HeapFail>
         requires { 1 ≤ length self.old.state.slots }
         ensures { Tells (spec.test_truth self.old) result self.old self.new }
@@ -254,6 +289,7 @@ impl<S: Store> Progress<S> {
     }
 
     /// Drops the last operand.
+    #[inline(always)]
     pub(crate) fn pop<L: Ledger>(&mut self, steps: &mut Steps<L>) -> Result<(), HeapFail>
         requires { 1 ≤ length self.old.state.slots }
         ensures { Tells (spec.pop_value self.old) result self.old self.new }
@@ -263,6 +299,7 @@ impl<S: Store> Progress<S> {
     }
 
     /// Drops the last operand, of which its user knew that it is there.
+    #[inline(always)]
     pub(crate) fn drop_operand<L: Ledger>(&mut self, steps: &mut Steps<L>)
         requires { 1 ≤ length self.old.state.slots }
         ensures { self.new ≡ spec.without_operand self.old }

@@ -54,6 +54,7 @@ impl<S: Store> Model for Running<S> {
 }
 
 // The instruction at a frame's address.
+#[inline(always)]
 fn instr_at(code: &Code, frame: FrameAt) -> &Placed
     requires { IsAt code.now (frame_of frame) }
     ensures there { slice_get (code_at code.now frame.body) frame.at ≡ Some result.now }
@@ -70,6 +71,7 @@ fn instr_at(code: &Code, frame: FrameAt) -> &Placed
 }
 
 // Does one instruction, by steps that nobody sees.
+#[inline(always)]
 fn step_alone<S: Store, L: Ledger>(
     stage: &mut Stage<S>,
     code: &Code,
@@ -145,6 +147,7 @@ impl<S: Store> Running<S> {
     }
 
     /// Whether the behaviour isn't over.
+    #[inline(always)]
     pub fn is_going(&self) -> bool
         ensures { IsTrue result ↔ IsGoing self.now }
     {
@@ -157,6 +160,7 @@ impl<S: Store> Running<S> {
     /// Does one instruction of the code, which is the one that the behaviour was started
     /// with. A fault ends the behaviour. After `OutOfMemory`, which may come at any time, all
     /// is as it was.
+    #[inline(always)]
     pub fn step(&mut self, code: &Code) -> Result<Stepped, OutOfMemory>
         requires going { IsGoing self.old }
         requires stands { StandsIn code.now self.old }

@@ -1,9 +1,11 @@
 //! One instruction, with the frames that stand.
 
 ghost use Rattle.std.specs.Prelude.{◌≡◌, ◌-◌, ◌≤◌, ◌+◌, ◌<◌, ◌^◌, IfOk, OnErr, length};
+ghost use Rattle.lf_base.specs.declared.faults.Fault.TheVariants.{Kind};
 ghost use Rattle.lf_code.specs.Actions.{last_truth, without_operand};
 ghost use Rattle.lf_code.specs.CodeStep.{act as acts_by, at_address, call_by, frames_left, no_truth, return_to, vars_at};
 ghost use Rattle.lf_code.specs.Progress.{Progress as Far, by_truth};
+ghost use Rattle.lf_machine.specs.declared.frame.Course.TheVariants.{Failed};
 ghost use Rattle.lf_machine.specs.Standing.{IsReady};
 ghost use Rattle.lf_machine.specs.Views.{config_of, frame_of, frames_below};
 ghost use Rattle.lf_machine.specs.Went.{Went};
@@ -26,6 +28,7 @@ pub(crate) struct Stage<S: Store> {
 }
 
 // Goes to the next instruction, unless the action was refused or memory was wanting.
+#[inline(always)]
 fn went(frame: &mut FrameAt, done: Result<(), HeapFail>, line: u32) -> Result<Course, OutOfMemory>
     requires { frame.old.at + 1 < 2 ^ 64 }
     ensures { Went line done result frame.old frame.new }
@@ -40,7 +43,18 @@ fn went(frame: &mut FrameAt, done: Result<(), HeapFail>, line: u32) -> Result<Co
     }
 }
 
+// The end of a behaviour that finds a value that is no truth value.
+fn not_a_truth(line: u32) -> Course
+    ensures { result ≡ Failed (record { fault = Kind; line = line }) }
+{
+    Course::Failed(FaultAt {
+        fault: Fault::Kind,
+        line,
+    })
+}
+
 // Drops a truth value, and goes on where it is true and elsewhere where it is false.
+#[inline(always)]
 fn unless<S: Store, L: Ledger>(
     stage: &mut Stage<S>,
     line: u32,
@@ -55,10 +69,7 @@ fn unless<S: Store, L: Ledger>(
         (λ (d : Far). at_address (frame_of stage.old.frame) (frames_below stage.old.below.items) to (without_operand d)) }
 {
     let Some(truth) = stage.progress.last_truth() else {
-        return Course::Failed(FaultAt {
-            fault: Fault::Kind,
-            line,
-        });
+        return not_a_truth(line);
     };
     stage.progress.drop_operand(steps);
     if truth {
@@ -84,10 +95,7 @@ fn and<S: Store, L: Ledger>(
         (at_address (frame_of stage.old.frame) (frames_below stage.old.below.items) to) }
 {
     let Some(truth) = stage.progress.last_truth() else {
-        return Course::Failed(FaultAt {
-            fault: Fault::Kind,
-            line,
-        });
+        return not_a_truth(line);
     };
     if truth {
         stage.progress.drop_operand(steps);
@@ -108,10 +116,7 @@ fn or<S: Store, L: Ledger>(stage: &mut Stage<S>, line: u32, to: u32, steps: &mut
         (λ (d : Far). at_address (frame_of stage.old.frame) (frames_below stage.old.below.items) (stage.old.frame.at + 1) (without_operand d)) }
 {
     let Some(truth) = stage.progress.last_truth() else {
-        return Course::Failed(FaultAt {
-            fault: Fault::Kind,
-            line,
-        });
+        return not_a_truth(line);
     };
     if truth {
         stage.frame.at = to as usize;
@@ -178,6 +183,7 @@ fn leave<S: Store, L: Ledger>(stage: &mut Stage<S>, steps: &mut Steps<L>) -> Cou
 
 /// Does an instruction of the last frame. After `OutOfMemory`, which may come at any time,
 /// all is as it was.
+#[inline(always)]
 pub(crate) fn do_instr<S: Store, L: Ledger>(
     stage: &mut Stage<S>,
     code: &Code,

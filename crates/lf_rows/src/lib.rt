@@ -48,6 +48,8 @@ mod stream_rows;
 #[cfg(test)]
 mod text_tests;
 #[cfg(test)]
+mod transfer_rows;
+#[cfg(test)]
 mod tree_rows;
 #[cfg(test)]
 mod word_rows;

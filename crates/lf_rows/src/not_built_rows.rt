@@ -2,7 +2,7 @@ use crate::accounts::ACCOUNTS;
 use crate::row::{REFUSED, Row};
 
 // Scripts of the language that don't run yet.
-static ROWS: [Row; 17] = [
+static ROWS: [Row; 14] = [
     Row {
         name: "when",
         script: "x = 1\nwhen:\n    pass\n",
@@ -13,24 +13,6 @@ static ROWS: [Row; 17] = [
         name: "Cown",
         script: "c = Cown(1)\n",
         text: "refused NotBuilt at line 1 column 1\n",
-        ..REFUSED
-    },
-    Row {
-        name: "freeze",
-        script: "x = {}\nfreeze(x)\n",
-        text: "refused NotBuilt at line 2 column 1\n",
-        ..REFUSED
-    },
-    Row {
-        name: "merge",
-        script: "a = Region()\nb = Region()\nmerge(a, b)\n",
-        text: "refused NotBuilt at line 3 column 1\n",
-        ..REFUSED
-    },
-    Row {
-        name: "dissolve",
-        script: "r = Region()\ndissolve(r)\n",
-        text: "refused NotBuilt at line 2 column 1\n",
         ..REFUSED
     },
     Row {
@@ -53,7 +35,7 @@ static ROWS: [Row; 17] = [
     },
     Row {
         name: "in a branch that is never taken",
-        script: "if False:\n    x = {}\n    print(freeze(x))\n",
+        script: "if False:\n    x = {}\n    print(Cown(x))\n",
         text: "refused NotBuilt at line 3 column 1\n",
         ..REFUSED
     },
@@ -77,19 +59,19 @@ static ROWS: [Row; 17] = [
     },
     Row {
         name: "the first of two, in a function",
-        script: "when:\n    pass\ndef f():\n    freeze(1)\n",
+        script: "when:\n    pass\ndef f():\n    Cown(1)\n",
         text: "refused NotBuilt at line 1 column 1\n",
         ..REFUSED
     },
     Row {
         name: "the first of two, in main",
-        script: "def f():\n    pass\n\nfreeze(1)\ndef g():\n    freeze(1)\n",
+        script: "def f():\n    pass\n\nCown(1)\ndef g():\n    Cown(1)\n",
         text: "refused NotBuilt at line 4 column 1\n",
         ..REFUSED
     },
     Row {
         name: "blank lines count",
-        script: "\n  \nx = {}\n\n\nfreeze(x)\n",
+        script: "\n  \nx = {}\n\n\nCown(x)\n",
         text: "refused NotBuilt at line 6 column 1\n",
         ..REFUSED
     },

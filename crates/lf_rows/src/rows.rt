@@ -10,6 +10,7 @@ use crate::refusal_rows::refusal_rows;
 use crate::row::{Row, WHOLE};
 use crate::run_rows::run_rows;
 use crate::stream_rows::stream_rows;
+use crate::transfer_rows::transfer_rows;
 use crate::word_rows::word_rows;
 use lf_app::{MainStore, Report, Status, Word, tool, top};
 use lf_base::OutOfMemory;
@@ -74,6 +75,12 @@ fn scripts_run(rt: HostRuntime) -> Result<(), Fail> {
 #[test]
 fn scripts_with_regions_run(rt: HostRuntime) -> Result<(), Fail> {
     check_rows_of(&rt, rt.alloc(), ownership_rows())?;
+    Ok(())
+}
+
+#[test]
+fn scripts_that_change_regions_run(rt: HostRuntime) -> Result<(), Fail> {
+    check_rows_of(&rt, rt.alloc(), transfer_rows())?;
     Ok(())
 }
 

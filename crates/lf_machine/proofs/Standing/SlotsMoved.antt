@@ -5,7 +5,8 @@ use Rattle.lf_base.specs.declared.faults.Fault.{Fault}
 use Rattle.lf_base.specs.declared.faults.Fault.TheVariants.{OutputFull}
 use Rattle.lf_base.specs.declared.values.Value.TheVariants as value
 use Rattle.lf_base.specs.Asking.{Answered, Asked, NotAnswered, asked, value_of_answer}
-use Rattle.lf_base.specs.HeapCalls.{Changed, Done, Refused, lift_change, load_change, new_object_change, new_region_change, read_change, take_change, unset_change, write_change}
+use Rattle.lf_base.specs.HeapCalls.{Changed, Done, Refused, dissolve_change, lift_change, load_change, merge_change, new_object_change, new_region_change}
+use Rattle.lf_base.specs.HeapCalls.{read_change, take_change, unset_change, write_change}
 use Rattle.lf_base.specs.Operands.{operand, popped, pushed, put_down}
 use Rattle.lf_base.specs.PlainState.{State}
 use Rattle.lf_base.specs.Texts.{Text}
@@ -23,7 +24,7 @@ use Rattle.lf_code.specs.Operations.{leaves, needs}
 use Rattle.lf_code.specs.Operators.{Computed, Faults, Yields, binary, unary}
 use Rattle.lf_code.specs.Progress.{Did, Does, Faulted, Progress, did_change}
 use Rattle.lf_code.specs.ValidCode.{instr_fits}
-use Rattle.lf_heap.proofs.Calls.SlotsAfter.{slots_lifted, slots_loaded, slots_popped, slots_pushed, slots_put, slots_read, slots_taken, slots_unset, slots_with_object, slots_with_region, slots_written}
+use Rattle.lf_heap.proofs.Calls.SlotsAfter.{slots_dissolved, slots_lifted, slots_loaded, slots_merged, slots_popped, slots_pushed, slots_put, slots_read, slots_taken, slots_unset, slots_with_object, slots_with_region, slots_written}
 use Rattle.lf_machine.specs.Actions.{action_of}
 use Rattle.lf_machine.specs.Forms.{goes_on, runs}
 
@@ -124,9 +125,17 @@ module _ (bodies : List Body) (texts : List Text) (vars addresses base : ℕ) (c
       by_state n 1 c (new_region_change c.state)
       (by_done n 1 c.state (new_region_change c.state) (λ t e. omega (arith, none, slots_with_region c.state t e)))
   moved (instr.Built built_name.Cown n) g r f h = absurd (cc)
-  moved (instr.Built built_name.Freeze n) g r f h = absurd (cc)
-  moved (instr.Built built_name.Merge n) g r f h = absurd (cc)
-  moved (instr.Built built_name.Dissolve n) g r f h = absurd (cc)
+  moved (instr.Built built_name.Freeze n) g r f h =
+      let one : n ≡ 1 = eqb-true n 1 f in
+      omega (arith, one)
+  moved (instr.Built built_name.Merge n) g r f h =
+      let two : n ≡ 2 = eqb-true n 2 f in
+      by_state n 1 c (merge_change c.state)
+      (by_done n 1 c.state (merge_change c.state) (λ t e. omega (arith, two, slots_merged c.state t (omega (arith, two, h)) e)))
+  moved (instr.Built built_name.Dissolve n) g r f h =
+      let one : n ≡ 1 = eqb-true n 1 f in
+      by_state n 1 c (dissolve_change c.state)
+      (by_done n 1 c.state (dissolve_change c.state) (λ t e. omega (arith, one, slots_dissolved c.state t e)))
   moved (instr.Ask ask_name.Close v) g r f h = absurd (cc)
   moved (instr.Ask ask_name.Refs v) g r f h = asks ask_name.Refs question.Refs v refl
   moved (instr.Ask ask_name.Borrowed v) g r f h = asks ask_name.Borrowed question.Borrowed v refl
