@@ -1,0 +1,20 @@
+//! The fast store of rows: a unit for each region, one for local and one for frozen rows,
+//! and an index from names to places.
+//!
+//! A unit has its rows in a chain of a pool and their fields in chains of another one, so
+//! that a region's rows leave and come as one unit, and neighbours are linked by numbers.
+//! The index is dense for the rows that the store's behaviour makes one after the other.
+//!
+//! It stands on lf_base, lf_graph and lf_pool.
+#![tactic(auto)]
+
+mod name_index;
+mod other_names;
+mod place;
+mod row_list;
+mod unit_row;
+
+pub use name_index::NameIndex;
+pub use place::Place;
+pub use row_list::RowList;
+pub use unit_row::UnitRow;
