@@ -1,1 +1,3 @@
 pub mod RowLists
+pub mod Entries
+pub mod SeenUnits

@@ -2,3 +2,4 @@ pub mod Places
 pub mod Index
 pub mod UnitRows
 pub mod RowLists
+pub mod Units

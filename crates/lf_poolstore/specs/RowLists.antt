@@ -1,7 +1,9 @@
 -- Rows in their order, each with its number.
-use Rattle.std.specs.Prelude.{List, Option, Some, [], cond, eqb, false, length, map, not, true, ℕ, ◌++◌, ◌∷◌, ◌≡◌}
+use Rattle.std.specs.Prelude.{List, Option, Some, [], cond, eqb, false, length, map, not, true, ℕ, ◌++◌, ◌∷◌, ◌≡◌, None}
 use Rattle.std.specs.List.{filter}
 use Rattle.std.specs.Map.{lookup}
+use Rattle.std.specs.Option.{option_map}
+use Rattle.lf_base.specs.declared.ids.ObjId.{ObjId}
 use Rattle.lf_base.specs.Links.{has, walk}
 use Rattle.lf_pool.specs.Cells.{item_at, link_at, node}
 use Rattle.lf_pool.specs.Pools.{IsLeft, PoolView}
@@ -49,3 +51,15 @@ without_entry at es = filter (λ (e : ℕ × UnitRow). not (eqb at e.0)) es
 -- the row of that number comes last
 abbrev pub moved_entry : ℕ → List (ℕ × UnitRow) → List (ℕ × UnitRow)
 moved_entry at es = without_entry at es ++ (at, row_or (entry_at es at)) ∷ []
+
+-- the names of the rows, and their numbers
+abbrev pub names_in : List (ℕ × UnitRow) → List ObjId
+names_in es = map (λ (e : ℕ × UnitRow). (e.1).name) es
+
+abbrev pub numbers_in : List (ℕ × UnitRow) → List ℕ
+numbers_in es = map (λ (e : ℕ × UnitRow). e.0) es
+
+-- the name of the row of a number, where there is one
+abbrev pub name_by : List (ℕ × UnitRow) → Option ℕ → Option ObjId
+name_by es None = None
+name_by es (Some x) = option_map (λ (r : UnitRow). r.name) (entry_at es x)

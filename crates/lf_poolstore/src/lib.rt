@@ -12,9 +12,11 @@ mod name_index;
 mod other_names;
 mod place;
 mod row_list;
+mod unit;
 mod unit_row;
 
 pub use name_index::NameIndex;
 pub use place::Place;
 pub use row_list::RowList;
+pub use unit::Unit;
 pub use unit_row::UnitRow;

@@ -2,11 +2,11 @@ ghost use Rattle.std.specs.Prelude.{◌≡◌, ◌<◌, ◌≤◌, ◌+◌, ◌+
 ghost use Rattle.lf_base.specs.Links.{after, has, head_or};
 ghost use Rattle.lf_pool.specs.Cells.{SameItems, node};
 ghost use Rattle.lf_pool.specs.Pools.{Chain, IsLeft};
-ghost use Rattle.lf_poolstore.specs.RowLists.{entry_at, moved_entry, with_entry, without_entry};
+ghost use Rattle.lf_poolstore.specs.RowLists.{entry_at, moved_entry, name_by, with_entry, without_entry};
 ghost use Rattle.lf_poolstore.specs.UnitRows.{is_live};
 
 use crate::unit_row::UnitRow;
-use lf_base::OutOfMemory;
+use lf_base::{ObjId, OutOfMemory};
 use lf_pool::{NONE, Pool};
 use std::alloc::Global;
 use std::marker::Model;
@@ -84,9 +84,22 @@ impl RowList {
     #[inline(always)]
     pub fn row(&self, at: u32) -> UnitRow
         requires { IsSome (entry_at self.now.entries at) }
-        ensures { entry_at self.now.entries at ≡ Some result }
+        ensures row { entry_at self.now.entries at ≡ Some result }
+        ensures live { is_live result ≡ true }
     {
         self.pool.item(at)
+    }
+
+    /// The name of the row of a number of the list, and none for `NONE`.
+    #[inline(always)]
+    pub fn name(&self, at: u32) -> Option<ObjId>
+        requires { (x : ℕ) → node at ≡ Some x → IsSome (entry_at self.now.entries x) }
+        ensures { result ≡ name_by self.now.entries (node at) }
+    {
+        if at == NONE {
+            return None;
+        }
+        Some(self.row(at).name)
     }
 
     /// The number of the first row, or `NONE`.

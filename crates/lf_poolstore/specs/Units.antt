@@ -1,0 +1,66 @@
+-- A unit: the rows of one owner, in order, and where each stands.
+use Rattle.std.specs.Prelude.{List, Option, Some, eqb, false, filter_map, length, map, min, ℕ, ◌≡◌, ◌≢◌}
+use Rattle.std.specs.Map.{lookup}
+use Rattle.lf_base.specs.declared.ids.ObjId.{ObjId}
+use Rattle.lf_base.specs.declared.values.Key.{Key}
+use Rattle.lf_base.specs.declared.values.Owner.{Owner}
+use Rattle.lf_base.specs.declared.values.Value.{Value}
+use Rattle.lf_base.specs.Links.{NodesDiffer}
+use Rattle.lf_base.specs.Names.{same_name}
+use Rattle.lf_pool.specs.Cells.{item_at, node}
+use Rattle.lf_pool.specs.Pools.{IsLeft, PoolView}
+use Rattle.lf_graph.specs.StoredRows.{CountedRow}
+use Rattle.lf_poolstore.specs.declared.unit_row.UnitRow.{UnitRow}
+use Rattle.lf_poolstore.specs.RowLists.{ListView, entry_at, names_in, numbers, numbers_in}
+
+abbrev pub FieldPool : Type 0
+FieldPool = PoolView (Key × Value)
+
+-- the fields of a row
+abbrev pub fields_of : FieldPool → UnitRow → List (Key × Value)
+fields_of cells r = filter_map (item_at cells.cells) (numbers cells r.fields)
+
+-- a row with its fields
+abbrev pub whole : Owner → FieldPool → UnitRow → CountedRow
+whole owner cells r = record { row = record { name = r.name; owner = owner; fields = fields_of cells r }; refs = r.refs }
+
+-- the first cell of a row leads to its fields, and their number is kept
+pub record KeepsFields (cells : FieldPool) (r : UnitRow) : Type 0 where
+  pub chain : IsLeft cells (node r.fields) (numbers cells r.fields)
+  pub size : length (fields_of cells r) ≡ r.width
+
+-- what a contract sees of a unit: its owner, its rows in order, the number of each by its name, and how many more cells have room
+pub record UnitView : Type 0 where
+  pub owner : Owner
+  pub rows : List CountedRow
+  pub places : List (ObjId × ℕ)
+  pub spare : ℕ
+
+-- the number of the row of that name
+abbrev pub place_in : UnitView → ObjId → Option ℕ
+place_in u o = lookup (same_name o) u.places
+
+-- the row of that name stands at that number
+abbrev pub StandsAt : UnitView → ℕ → ObjId → Type 0
+StandsAt u at o = place_in u o ≡ Some at
+
+abbrev pub rows_in : Owner → FieldPool → List (ℕ × UnitRow) → List CountedRow
+rows_in owner cells es = map (λ (e : ℕ × UnitRow). whole owner cells e.1) es
+
+abbrev pub places_in : List (ℕ × UnitRow) → List (ObjId × ℕ)
+places_in es = map (λ (e : ℕ × UnitRow). ((e.1).name, e.0)) es
+
+abbrev pub unit_view : Owner → ListView → FieldPool → UnitView
+unit_view owner rows cells = record {
+  owner = owner;
+  rows = rows_in owner cells rows.entries;
+  places = places_in rows.entries;
+  spare = min rows.spare cells.spare;
+}
+
+-- no two rows have one number or one name, each leads to its fields, and no two share cells
+pub record IsUnit (es : List (ℕ × UnitRow)) (cells : FieldPool) : Type 0 where
+  pub numbers_differ : NodesDiffer eqb (numbers_in es)
+  pub names_differ : NodesDiffer same_name (names_in es)
+  pub fields : (at : ℕ) → (r : UnitRow) → entry_at es at ≡ Some r → KeepsFields cells r
+  pub apart : (a b : ℕ) → (r s : UnitRow) → entry_at es a ≡ Some r → entry_at es b ≡ Some s → eqb a b ≡ false → (c : ℕ) → node r.fields ≡ Some c → node s.fields ≢ Some c
