@@ -1,3 +1,4 @@
 pub mod RowLists
 pub mod Entries
 pub mod SeenUnits
+pub mod EntryLists

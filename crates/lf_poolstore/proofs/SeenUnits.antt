@@ -60,7 +60,7 @@ stands_seen owner l cells v seen at o r f n =
     subst (λ (w : UnitView). StandsAt w at o) seen.is (stands_there l.entries o at r seen.unit.numbers_differ seen.unit.names_differ f n)
 
 -- ---- the first row and the next one
-found_later : (e : ℕ × UnitRow) (es : Entries) (x : ℕ) → Lacks eqb e.0 (numbers_in es) → IsSome (entry_at es x) → entry_at (e ∷ es) x ≡ entry_at es x
+pub found_later : (e : ℕ × UnitRow) (es : Entries) (x : ℕ) → Lacks eqb e.0 (numbers_in es) → IsSome (entry_at es x) → entry_at (e ∷ es) x ≡ entry_at es x
 found_later e es x l s = ap (λ b. cond b (Some e.1) (entry_at es x)) (out es x l s) where
   out : (us : Entries) (y : ℕ) → Lacks eqb e.0 (numbers_in us) → IsSome (entry_at us y) → eqb y e.0 ≡ false
   out [] y m h = cc
@@ -136,6 +136,7 @@ module _ (es : Entries) (cells : FieldPool) (unit : IsUnit es cells) (at : ℕ) 
           fields = λ x s e. let b = before x s e in let k = unit.fields x b.0 b.1 in
               record {
                 chain = subst (λ f. IsLeft cells (node f) (numbers cells f)) (sym b.2) k.chain;
+                count = ap (λ f. length (numbers cells f)) b.2 ∙ k.count ∙ sym b.3;
                 size = ap (λ f. length (filter_map (item_at cells.cells) (numbers cells f))) b.2 ∙ k.size ∙ sym b.3;
               };
           apart = λ x y s t e f n c g h. let a = before x s e in let b = before y t f in unit.apart x y a.0 b.0 a.1 b.1 n c (ap node (sym a.2) ∙ g) (ap node (sym b.2) ∙ h);
@@ -145,19 +146,26 @@ module _ (es : Entries) (cells : FieldPool) (unit : IsUnit es cells) (at : ℕ) 
     set_rows owner o f agree is_f = row_set owner cells at o f r row is_f es agree (λ x g. same_row (sym g ∙ found)) unit.numbers_differ
 
 -- ---- cells that stay
+-- the fields of a row whose chain stays
+module _ (m n : FieldPool) (items : (x : ℕ) → item_at n.cells x ≡ item_at m.cells x) (r : UnitRow) (k : KeepsFields m r) (stays : (c : ℕ) → Chain m c (numbers m r.fields) → Chain n c (numbers m r.fields)) where
+  kept_left : IsLeft n (node r.fields) (numbers m r.fields)
+  kept_left = left_kept m n (node r.fields) (numbers m r.fields) k.chain stays
+
+  kept_numbers : numbers n r.fields ≡ numbers m r.fields
+  kept_numbers = numbers_are n r.fields (numbers m r.fields) kept_left
+
+  pub kept_fields_by : fields_of n r ≡ fields_of m r
+  kept_fields_by = ap (filter_map (item_at n.cells)) kept_numbers ∙ (λ i. filter_map (λ x. items x i) (numbers m r.fields))
+
+  pub kept_row_by : KeepsFields n r
+  kept_row_by = record { chain = subst (IsLeft n (node r.fields)) (sym kept_numbers) kept_left; count = ap length kept_numbers ∙ k.count; size = ap length kept_fields_by ∙ k.size }
+
 module _ (m n : FieldPool) (items : (x : ℕ) → item_at n.cells x ≡ item_at m.cells x) (chains : (c : ℕ) → (xs : List ℕ) → Chain m c xs → Chain n c xs) where
-  module _ (r : UnitRow) (k : KeepsFields m r) where
-    kept_left : IsLeft n (node r.fields) (numbers m r.fields)
-    kept_left = left_kept m n (node r.fields) (numbers m r.fields) k.chain (λ c. chains c (numbers m r.fields))
+  kept_fields : (r : UnitRow) → KeepsFields m r → fields_of n r ≡ fields_of m r
+  kept_fields r k = kept_fields_by m n items r k (λ c. chains c (numbers m r.fields))
 
-    kept_numbers : numbers n r.fields ≡ numbers m r.fields
-    kept_numbers = numbers_are n r.fields (numbers m r.fields) kept_left
-
-    pub kept_fields : fields_of n r ≡ fields_of m r
-    kept_fields = ap (filter_map (item_at n.cells)) kept_numbers ∙ (λ i. filter_map (λ x. items x i) (numbers m r.fields))
-
-    pub kept_row : KeepsFields n r
-    kept_row = record { chain = subst (IsLeft n (node r.fields)) (sym kept_numbers) kept_left; size = ap length kept_fields ∙ k.size }
+  kept_row : (r : UnitRow) → KeepsFields m r → KeepsFields n r
+  kept_row r k = kept_row_by m n items r k (λ c. chains c (numbers m r.fields))
 
   pub kept_unit : (es : Entries) → IsUnit es m → IsUnit es n
   kept_unit es u = record { numbers_differ = u.numbers_differ; names_differ = u.names_differ; fields = λ at r f. kept_row r (u.fields at r f); apart = u.apart }

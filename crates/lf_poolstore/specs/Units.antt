@@ -27,6 +27,7 @@ whole owner cells r = record { row = record { name = r.name; owner = owner; fiel
 -- the first cell of a row leads to its fields, and their number is kept
 pub record KeepsFields (cells : FieldPool) (r : UnitRow) : Type 0 where
   pub chain : IsLeft cells (node r.fields) (numbers cells r.fields)
+  pub count : length (numbers cells r.fields) ≡ r.width
   pub size : length (fields_of cells r) ≡ r.width
 
 -- what a contract sees of a unit: its owner, its rows in order, the number of each by its name, and how many more cells have room
