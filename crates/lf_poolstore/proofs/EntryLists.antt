@@ -1,5 +1,5 @@
 -- A row more, and a row less, among rows with numbers and names.
-use Rattle.std.proofs.Common.{◌≡◌, ◌≢◌, ℕ, zero, suc, Bool, true, false, cond, not, ◌⊎◌, inl, inr, List, [], ◌∷◌, ◌++◌, length, map, Option, Some, None, refl, ap, sym, ◌∙◌, subst}
+use Rattle.std.proofs.Common.{◌≡◌, ◌≢◌, ℕ, Bool, true, false, cond, not, ◌⊎◌, inl, inr, List, [], ◌∷◌, ◌++◌, length, map, Some, None, refl, ap, sym, ◌∙◌, subst}
 use Rattle.std.specs.Prelude.{eqb}
 use Rattle.std.specs.List.{filter_map}
 use Rattle.std.specs.Map.{lookup}
@@ -7,9 +7,8 @@ use Rattle.std.specs.Option.{IsSome}
 use Rattle.std.proofs.lemmas.Bool.Decides.{Decides-eqb}
 use Rattle.std.proofs.lemmas.List.{map-append}
 use Rattle.lf_base.specs.declared.ids.ObjId.{ObjId}
-use Rattle.lf_base.specs.declared.links.Link.{Link}
 use Rattle.lf_base.specs.declared.values.Owner.{Owner}
-use Rattle.lf_base.specs.Links.{Lacks, NodesDiffer, head_or, walk}
+use Rattle.lf_base.specs.Links.{Lacks, NodesDiffer, head_or}
 use Rattle.lf_base.specs.Names.{same_name}
 use Rattle.lf_base.proofs.NameLemmas.SameNames.{same_name_flips, same_name_is}
 use Rattle.lf_pool.specs.declared.cell.TheConstants.{NONE}
@@ -24,7 +23,7 @@ use Rattle.lf_poolstore.specs.declared.unit_row.UnitRow.{UnitRow}
 use Rattle.lf_poolstore.specs.RowLists.{entry_at, names_in, numbers, numbers_in, without_entry}
 use Rattle.lf_poolstore.specs.Units.{FieldPool, IsUnit, KeepsFields, places_in, rows_in, whole}
 use Rattle.lf_poolstore.proofs.Entries.{Agree, Entries}
-use Rattle.lf_poolstore.proofs.RowLists.{entry}
+use Rattle.lf_poolstore.proofs.RowLists.{entry, walk_none}
 use Rattle.lf_poolstore.proofs.SeenUnits.{found_later, kept_fields_by, kept_row_by, same_row}
 
 -- ---- lists without repeats
@@ -142,10 +141,6 @@ module _ (owner : Owner) (cells : FieldPool) where
     | true ↦ λ _ k. absurd (cc k)
     | false ↦ λ n k. (same_name_flips o (e.1).name ∙ n, new_lacks es o k)
   ] refl h
-
-  walk_none : {N : Type 0} (n : ℕ) (get : N → Option (Link N)) → walk n get None ≡ []
-  walk_none zero get = refl
-  walk_none (suc n) get = refl
 
   pub no_numbers : numbers cells NONE ≡ []
   no_numbers = walk_none (length cells.cells) (link_at cells.cells)

@@ -1,9 +1,10 @@
 -- What each change of a pool makes of a list of rows.
-use Rattle.std.proofs.Common.{◌≡◌, ◌≢◌, ℕ, Bool, true, false, cond, not, ◌||◌, ◌<◌, List, [], ◌∷◌, ◌++◌, length, map, Option, Some, None, refl, ap, sym, ◌∙◌, subst}
+use Rattle.std.proofs.Common.{◌≡◌, ◌≢◌, ℕ, Bool, true, false, cond, not, ◌||◌, ◌<◌, List, [], ◌∷◌, ◌++◌, length, map, Option, Some, None, refl, ap, sym, ◌∙◌, subst, zero, suc}
 use Rattle.std.specs.Prelude.{eqb}
 use Rattle.std.specs.Option.{IsSome}
 use Rattle.std.proofs.Math.Bool.{or-false, or-true}
 use Rattle.std.proofs.lemmas.Bool.Decides.{Decides-eqb}
+use Rattle.lf_base.specs.declared.links.Link.{Link}
 use Rattle.lf_base.specs.Links.{has, last_or, walk, without}
 use Rattle.lf_base.proofs.ListLemmas.LinkedLists.{has-append, walk-LinksSpell}
 use Rattle.lf_pool.specs.declared.cell.TheConstants.{NONE}
@@ -17,6 +18,11 @@ use Rattle.lf_poolstore.specs.RowLists.{IsRowList, entries_in, entry_at, moved_e
 use Rattle.lf_poolstore.specs.UnitRows.{is_live, row_or}
 
 -- ---- chains that may be empty
+-- no cells come from no cell
+pub walk_none : {N : Type 0} (n : ℕ) (get : N → Option (Link N)) → walk n get None ≡ []
+walk_none zero get = refl
+walk_none (suc n) get = refl
+
 module _ {T : Type 0} where
   -- the walk gives the numbers that the links spell
   pub numbers_are : (p : PoolView T) (first : ℕ) (xs : List ℕ) → IsLeft p (node first) xs → numbers p first ≡ xs

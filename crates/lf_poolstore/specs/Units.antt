@@ -16,9 +16,13 @@ use Rattle.lf_poolstore.specs.RowLists.{ListView, entry_at, names_in, numbers, n
 abbrev pub FieldPool : Type 0
 FieldPool = PoolView (Key × Value)
 
+-- the fields in these cells
+abbrev pub items_in : FieldPool → List ℕ → List (Key × Value)
+items_in cells xs = filter_map (item_at cells.cells) xs
+
 -- the fields of a row
 abbrev pub fields_of : FieldPool → UnitRow → List (Key × Value)
-fields_of cells r = filter_map (item_at cells.cells) (numbers cells r.fields)
+fields_of cells r = items_in cells (numbers cells r.fields)
 
 -- a row with its fields
 abbrev pub whole : Owner → FieldPool → UnitRow → CountedRow

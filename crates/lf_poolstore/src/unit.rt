@@ -1,4 +1,5 @@
 mod changes;
+mod fields;
 mod reads;
 
 use crate::row_list::RowList;
