@@ -1,23 +1,42 @@
 -- Fields found in chains of cells.
-use Rattle.std.proofs.Common.{◌≡◌, ℕ, true, false, cond, ◌||◌, ◌<◌, List, [], ◌∷◌, length, option_map, Option, Some, None, refl, ap, sym, ◌∙◌, subst}
+use Rattle.std.proofs.Common.{◌≡◌, ℕ, true, false, cond, ◌||◌, ◌<◌, List, [], ◌∷◌, length, option_map, Option, Some, None, refl, ap, sym, ◌∙◌, subst, zero, suc, arith, ◌++◌, Bool}
 use Rattle.std.specs.Prelude.{eqb}
 use Rattle.std.specs.List.{cons_option}
 use Rattle.std.proofs.Math.Bool.{or-true}
 use Rattle.std.proofs.lemmas.Bool.Decides.{Decides-eqb}
 use Rattle.lf_base.specs.declared.values.Key.{Key}
 use Rattle.lf_base.specs.declared.values.Value.{Value}
-use Rattle.lf_base.specs.Links.{has}
+use Rattle.lf_base.specs.Links.{Lacks, NodesDiffer, has}
+use Rattle.lf_base.specs.WriteResult.{put_field}
+use Rattle.lf_pool.specs.declared.cell.Cell.{Cell}
 use Rattle.lf_base.specs.Names.{same_key}
 use Rattle.lf_base.specs.TakeResult.{field_at}
 use Rattle.lf_pool.specs.declared.cell.TheConstants.{NONE}
 use Rattle.lf_base.specs.Links.{walk}
-use Rattle.lf_pool.specs.Cells.{item_at, link_at, node}
+use Rattle.lf_pool.specs.Cells.{IsChain, item_at, link_at, node}
 use Rattle.lf_pool.specs.Fields.{first_with, is_keyed}
 use Rattle.lf_pool.specs.Pools.{Chain, IsLeft}
 use Rattle.lf_pool.proofs.Joins.{chain_in_range, some_is}
 use Rattle.lf_poolstore.specs.RowLists.{numbers}
 use Rattle.lf_poolstore.specs.Units.{FieldPool, items_in}
 use Rattle.lf_poolstore.proofs.RowLists.{as_chain, node_same, walk_none}
+
+abbrev pub pair : Key → Value → Key × Value
+pair k v = (k, v)
+
+-- a member of a list is none of those that the list lacks
+pub member_apart : (x q : ℕ) (xs : List ℕ) → has eqb q xs ≡ true → Lacks eqb x xs → eqb x q ≡ false
+member_apart x q [] h l = absurd (cc h)
+member_apart x q (y ∷ ys) h l = elim (eqb q y) as (λ b. eqb q y ≡ b → (b || has eqb q ys) ≡ true → eqb x q ≡ false) [
+  | true ↦ λ e _. ap (eqb x) ((Decides-eqb q y).0 e) ∙ l.0
+  | false ↦ λ _ g. member_apart x q ys g l.1
+] refl h
+
+pub apart_of_member : (q x : ℕ) (xs : List ℕ) → has eqb q xs ≡ true → Lacks eqb x xs → eqb q x ≡ false
+apart_of_member q x xs h l = elim (eqb q x) as (λ b. eqb q x ≡ b → b ≡ false) [
+  | true ↦ λ e. let k : eqb x q ≡ true = (Decides-eqb x q).1 (sym ((Decides-eqb q x).0 e)) in let n = member_apart x q xs h l in cc (k, n)
+  | false ↦ λ _. refl
+] refl
 
 -- the value of the field in a cell, where there is one
 abbrev pub value_in : FieldPool → Option ℕ → Option Value
@@ -59,3 +78,62 @@ no_number n e = ap (λ b. cond b None (Some n)) ((Decides-eqb n NONE).1 e)
 pub none_found : (cells : FieldPool) (k : Key) (first : ℕ) → node first ≡ None → None ≡ first_with cells.cells k (numbers cells first)
 none_found cells k first e =
     sym (ap (λ t. first_with cells.cells k (walk (length cells.cells) (link_at cells.cells) t)) e ∙ ap (first_with cells.cells k) (walk_none (length cells.cells) (link_at cells.cells)))
+
+-- ---- all cells of a chain have items
+item_there : {T : Type 0} (cells : List (Cell T)) (q : ℕ) → q < length cells → (t : T) × (item_at cells q ≡ Some t)
+item_there [] q l = absurd (omega (arith, l))
+item_there (c ∷ cells) zero l = (c.item, refl)
+item_there (c ∷ cells) (suc q) l = item_there cells q (omega (arith, l))
+
+each_there : (cells : FieldPool) (xs : List ℕ) → ((q : ℕ) → has eqb q xs ≡ true → q < length cells.cells) → length (items_in cells xs) ≡ length xs
+each_there cells [] k = refl
+each_there cells (x ∷ xs) k =
+    let t = item_there cells.cells x (k x (ap (λ b. b || has eqb x xs) ((Decides-eqb x x).1 refl))) in
+    ap (λ s. length (cons_option s (items_in cells xs))) t.1 ∙ ap suc (each_there cells xs (λ q h. k q (ap (λ b. eqb q x || b) h ∙ or-true (eqb q x))))
+
+pub items_length : (cells : FieldPool) (xs : List ℕ) → IsChain (link_at cells.cells) xs → length (items_in cells xs) ≡ length xs
+items_length cells xs z = each_there cells xs (λ q h. chain_in_range cells.cells xs q z h)
+
+-- ---- a field more, and a field replaced
+pub items_more : (cells : FieldPool) (xs : List ℕ) (x : ℕ) (p : Key × Value) → item_at cells.cells x ≡ Some p → items_in cells (xs ++ x ∷ []) ≡ items_in cells xs ++ p ∷ []
+items_more cells [] x p e = ap (λ s. cons_option s []) e
+items_more cells (y ∷ ys) x p e = ap (cons_option (item_at cells.cells y)) (items_more cells ys x p e) ∙ onto (item_at cells.cells y) where
+  onto : (s : Option (Key × Value)) → cons_option s (items_in cells ys ++ p ∷ []) ≡ cons_option s (items_in cells ys) ++ p ∷ []
+  onto None = refl
+  onto (Some q) = refl
+
+pub items_same : (m n : FieldPool) (xs : List ℕ) → ((q : ℕ) → has eqb q xs ≡ true → item_at n.cells q ≡ item_at m.cells q) → items_in n xs ≡ items_in m xs
+items_same m n [] k = refl
+items_same m n (x ∷ xs) k = λ i. cons_option (k x (ap (λ b. b || has eqb x xs) ((Decides-eqb x x).1 refl)) i) (items_same m n xs (λ q h. k q (ap (λ b. eqb q x || b) h ∙ or-true (eqb q x))) i)
+
+pub put_absent : (cells : FieldPool) (k : Key) (v : Value) (xs : List ℕ) → first_with cells.cells k xs ≡ None → put_field (items_in cells xs) k v ≡ items_in cells xs ++ (k, v) ∷ []
+put_absent cells k v [] h = refl
+put_absent cells k v (x ∷ xs) h = go (put_absent cells k v xs) (item_at cells.cells x) h where
+  go : (first_with cells.cells k xs ≡ None → put_field (items_in cells xs) k v ≡ items_in cells xs ++ pair k v ∷ []) → (t : Option (Key × Value)) → cond (is_keyed k t) (Some x) (first_with cells.cells k xs) ≡ None
+      → put_field (cons_option t (items_in cells xs)) k v ≡ cons_option t (items_in cells xs) ++ pair k v ∷ []
+  go ih None e = ih e
+  go ih (Some p) e = elim (same_key p.0 k) as (λ b. cond b (Some x) (first_with cells.cells k xs) ≡ None
+      → cond b (pair k v ∷ items_in cells xs) (p ∷ put_field (items_in cells xs) k v) ≡ p ∷ (items_in cells xs ++ pair k v ∷ [])) [
+        | true ↦ λ g. absurd (cc g)
+        | false ↦ λ g. ap (λ l. p ∷ l) (ih g)
+      ] e
+
+pub put_there : (m n : FieldPool) (k : Key) (v : Value) (cell : ℕ) → item_at n.cells cell ≡ Some (pair k v) → ((q : ℕ) → eqb cell q ≡ false → item_at n.cells q ≡ item_at m.cells q)
+    → (xs : List ℕ) → NodesDiffer eqb xs → first_with m.cells k xs ≡ Some cell → items_in n xs ≡ put_field (items_in m xs) k v
+put_there m n k v cell here others [] d h = absurd (cc h)
+put_there m n k v cell here others (x ∷ xs) d h = go (put_there m n k v cell here others xs d.1) (item_at m.cells x) refl (is_keyed k (item_at m.cells x)) refl h where
+  elsewhere : first_with m.cells k xs ≡ Some cell → eqb cell x ≡ false
+  elsewhere e = apart_of_member cell x xs (first_with_member m k xs cell e) d.0
+
+  go : (first_with m.cells k xs ≡ Some cell → items_in n xs ≡ put_field (items_in m xs) k v) → (t : Option (Key × Value)) → item_at m.cells x ≡ t → (b : Bool) → is_keyed k t ≡ b → cond b (Some x) (first_with m.cells k xs) ≡ Some cell
+      → cons_option (item_at n.cells x) (items_in n xs) ≡ put_field (cons_option t (items_in m xs)) k v
+  go ih None e true s g = absurd (cc s)
+  go ih None e false s g = ap (λ w. cons_option w (items_in n xs)) (others x (elsewhere g) ∙ e) ∙ ih g
+  go ih (Some p) e true s g =
+      let same : x ≡ cell = some_is x cell g in
+      ap (λ w. cons_option w (items_in n xs)) (ap (item_at n.cells) same ∙ here)
+      ∙ ap (λ l. pair k v ∷ l) (items_same m n xs (λ q w. others q (subst (λ y. eqb y q ≡ false) same (member_apart x q xs w d.0))))
+      ∙ sym (ap (λ b. cond b (pair k v ∷ items_in m xs) (p ∷ put_field (items_in m xs) k v)) s)
+  go ih (Some p) e false s g =
+      ap (λ w. cons_option w (items_in n xs)) (others x (elsewhere g) ∙ e) ∙ ap (λ l. p ∷ l) (ih g)
+      ∙ sym (ap (λ b. cond b (pair k v ∷ items_in m xs) (p ∷ put_field (items_in m xs) k v)) s)

@@ -189,7 +189,6 @@ module _ (owner : Owner) (cells : FieldPool) where
         record {
           chain = record { chain = subst (IsChain (link_at cells.cells)) (sym none) (record { links = tt; differ = tt }); begins = ap (λ ns. head_or ns None) none ∙ sym bare; live = λ c e. cc (bare, e) };
           count = ap length none ∙ sym (ap (λ (r : UnitRow). r.width) is);
-          size = ap (λ ns. length (filter_map (item_at cells.cells) ns)) none ∙ sym (ap (λ (r : UnitRow). r.width) is);
         }
 
     pub push_unit : IsUnit (es ++ entry at row ∷ []) cells

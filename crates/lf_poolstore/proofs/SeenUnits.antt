@@ -9,6 +9,7 @@ use Rattle.lf_base.specs.declared.values.Value.{Value}
 use Rattle.lf_pool.specs.declared.cell.TheConstants.{NONE}
 use Rattle.lf_pool.specs.Pools.{Chain, IsLeft}
 use Rattle.lf_poolstore.proofs.RowLists.{left_kept, numbers_are}
+use Rattle.lf_poolstore.proofs.CellFields.{items_length}
 use Rattle.std.proofs.lemmas.Bool.Decides.{Decides-eqb}
 use Rattle.lf_base.specs.declared.ids.ObjId.{ObjId}
 use Rattle.lf_base.specs.declared.values.Owner.{Owner}
@@ -49,7 +50,7 @@ module _ (owner : Owner) (l : ListView) (cells : FieldPool) (v : UnitView) (seen
     refs_seen = sym (ap refs_by row_seen)
 
     pub width_seen : r.width ≡ length (fields_at v.rows o)
-    width_seen = sym (ap (λ t. length (fields_by t)) row_seen ∙ (seen.unit.fields at r found).size)
+    width_seen = sym (ap (λ t. length (fields_by t)) row_seen ∙ items_length cells (numbers cells r.fields) (seen.unit.fields at r found).chain.chain ∙ (seen.unit.fields at r found).count)
 
     pub name_seen : r.name ≡ o
     name_seen = ap (λ (u : UnitRow). u.name) (same_row (sym found ∙ standing.found)) ∙ standing.named
@@ -137,7 +138,6 @@ module _ (es : Entries) (cells : FieldPool) (unit : IsUnit es cells) (at : ℕ) 
               record {
                 chain = subst (λ f. IsLeft cells (node f) (numbers cells f)) (sym b.2) k.chain;
                 count = ap (λ f. length (numbers cells f)) b.2 ∙ k.count ∙ sym b.3;
-                size = ap (λ f. length (filter_map (item_at cells.cells) (numbers cells f))) b.2 ∙ k.size ∙ sym b.3;
               };
           apart = λ x y s t e f n c g h. let a = before x s e in let b = before y t f in unit.apart x y a.0 b.0 a.1 b.1 n c (ap node (sym a.2) ∙ g) (ap node (sym b.2) ∙ h);
         }
@@ -158,7 +158,7 @@ module _ (m n : FieldPool) (items : (x : ℕ) → item_at n.cells x ≡ item_at 
   kept_fields_by = ap (filter_map (item_at n.cells)) kept_numbers ∙ (λ i. filter_map (λ x. items x i) (numbers m r.fields))
 
   pub kept_row_by : KeepsFields n r
-  kept_row_by = record { chain = subst (IsLeft n (node r.fields)) (sym kept_numbers) kept_left; count = ap length kept_numbers ∙ k.count; size = ap length kept_fields_by ∙ k.size }
+  kept_row_by = record { chain = subst (IsLeft n (node r.fields)) (sym kept_numbers) kept_left; count = ap length kept_numbers ∙ k.count }
 
 module _ (m n : FieldPool) (items : (x : ℕ) → item_at n.cells x ≡ item_at m.cells x) (chains : (c : ℕ) → (xs : List ℕ) → Chain m c xs → Chain n c xs) where
   kept_fields : (r : UnitRow) → KeepsFields m r → fields_of n r ≡ fields_of m r

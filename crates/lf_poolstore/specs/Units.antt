@@ -32,7 +32,21 @@ whole owner cells r = record { row = record { name = r.name; owner = owner; fiel
 pub record KeepsFields (cells : FieldPool) (r : UnitRow) : Type 0 where
   pub chain : IsLeft cells (node r.fields) (numbers cells r.fields)
   pub count : length (numbers cells r.fields) ≡ r.width
-  pub size : length (fields_of cells r) ≡ r.width
+
+-- two rows share no cells
+abbrev pub Apart : UnitRow → UnitRow → Type 0
+Apart r s = (c : ℕ) → node r.fields ≡ Some c → node s.fields ≢ Some c
+
+-- a row keeps its name and its count
+pub record KeepsRow (old new : UnitRow) : Type 0 where
+  pub name : new.name ≡ old.name
+  pub refs : new.refs ≡ old.refs
+
+-- the row has these fields now, and each row that shares no cells with it has what it had
+pub record Writes (m n : FieldPool) (old new : UnitRow) (fields : List (Key × Value)) : Type 0 where
+  pub keeps : KeepsFields n new
+  pub here : fields_of n new ≡ fields
+  pub others : (s : UnitRow) → KeepsFields m s → Apart old s → KeepsFields n s × (fields_of n s ≡ fields_of m s) × Apart new s
 
 -- what a contract sees of a unit: its owner, its rows in order, the number of each by its name, and how many more cells have room
 pub record UnitView : Type 0 where

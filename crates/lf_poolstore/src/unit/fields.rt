@@ -1,16 +1,19 @@
 //! Fields of the rows of a unit.
 
-ghost use Rattle.std.specs.Prelude.{◌≡◌, List, ℕ};
+ghost use Rattle.std.specs.Prelude.{◌≡◌, ◌≢◌, ◌<◌, ◌+◌, ◌++◌, ◌∷◌, [], List, None, Some, ℕ, eqb, false, length};
 ghost use Rattle.lf_base.specs.declared.ids.ObjId.{ObjId as Name};
-ghost use Rattle.lf_pool.specs.Cells.{node};
+ghost use Rattle.lf_base.specs.Links.{has};
+ghost use Rattle.lf_base.specs.WriteResult.{put_field};
+ghost use Rattle.lf_pool.specs.Cells.{SameItems, node};
 ghost use Rattle.lf_pool.specs.Fields.{first_with};
-ghost use Rattle.lf_pool.specs.Pools.{IsLeft};
+ghost use Rattle.lf_pool.specs.Pools.{Chain, IsLeft};
 ghost use Rattle.lf_graph.specs.StoredRows.{field_value_at};
-ghost use Rattle.lf_poolstore.specs.Units.{StandsAt, items_in};
+ghost use Rattle.lf_poolstore.specs.Units.{KeepsFields, KeepsRow, StandsAt, Writes, fields_of, items_in};
 ghost use Rattle.lf_poolstore.specs.RowLists.{numbers};
 ghost use Rattle.lf_base.specs.TakeResult.{field_at};
 
 use crate::unit::Unit;
+use crate::unit_row::UnitRow;
 use lf_base::{Key, Value};
 use lf_pool::{CellPool, NONE};
 
@@ -37,6 +40,60 @@ fn value_of(cells: &CellPool, first: u32, key: Key) -> Option<Value>
         return None;
     }
     Some(cells.pair(cell).1)
+}
+
+// Puts a cell that is a chain of its own at the end of a chain that may be empty, and gives
+// the first cell.
+#[inline(always)]
+fn chained(cells: &mut CellPool, first: u32, cell: u32) -> u32
+    requires list { IsLeft cells.old (node first) (numbers cells.old first) × (has eqb cell (numbers cells.old first) ≡ false) }
+    requires alone { Chain cells.old cell (cell ∷ []) }
+    requires number { node cell ≡ Some cell }
+    ensures list { IsLeft cells.new (node result) (numbers cells.old first ++ cell ∷ []) }
+    ensures others { (d : ℕ) → (zs : List ℕ) → Chain cells.old d zs → node first ≢ Some d → d ≢ cell → Chain cells.new d zs }
+    ensures begins { (d : ℕ) → node result ≡ Some d → node first ≢ Some d → d ≡ cell }
+    ensures items { SameItems cells.old.cells cells.new.cells }
+    ensures size { length cells.new.cells ≡ length cells.old.cells }
+    ensures room { cells.new.spare ≡ cells.old.spare }
+{
+    if first == NONE {
+        return cell;
+    }
+    cells.push_last(first, cell);
+    first
+}
+
+// Gives a row a field that it hasn't: the row that is to be kept.
+#[inline(always)]
+fn added(cells: &mut CellPool, row: UnitRow, key: Key, v: Value) -> UnitRow
+    requires keeps { KeepsFields cells.old row }
+    requires new { first_with cells.old.cells key (numbers cells.old row.fields) ≡ None }
+    requires room { 0 < cells.old.spare }
+    ensures row { KeepsRow row result }
+    ensures written { Writes cells.old cells.new row result (put_field (fields_of cells.old row) key v) }
+    ensures room { cells.old.spare ≡ cells.new.spare + 1 }
+{
+    let cell = cells.take(key, v);
+    let fields = chained(cells, row.fields, cell);
+    UnitRow {
+        fields,
+        width: row.width + 1,
+        ..row
+    }
+}
+
+// Replaces the value in a cell of a row.
+#[inline(always)]
+fn replaced(cells: &mut CellPool, row: UnitRow, cell: u32, key: Key, v: Value) -> Value
+    requires keeps { KeepsFields cells.old row }
+    requires found { first_with cells.old.cells key (numbers cells.old row.fields) ≡ Some cell }
+    ensures value { Some result ≡ field_at (fields_of cells.old row) key }
+    ensures written { Writes cells.old cells.new row row (put_field (fields_of cells.old row) key v) }
+    ensures room { cells.new.spare ≡ cells.old.spare }
+{
+    let old = cells.pair(cell).1;
+    cells.set(cell, v);
+    old
 }
 
 impl Unit {
