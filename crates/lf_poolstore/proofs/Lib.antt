@@ -4,3 +4,4 @@ pub mod Entries
 pub mod SeenUnits
 pub mod EntryLists
 pub mod Written
+pub mod WrittenUnits

@@ -1,12 +1,14 @@
 //! Fields of the rows of a unit.
 
-ghost use Rattle.std.specs.Prelude.{◌≡◌, ◌≢◌, ◌<◌, ◌+◌, ◌++◌, ◌∷◌, [], List, None, Some, ℕ, eqb, false, length};
+ghost use Rattle.std.specs.Prelude.{◌≡◌, ◌≢◌, ◌<◌, ◌≤◌, ◌+◌, ◌++◌, ◌∷◌, [], List, None, Some, ℕ, eqb, false, length};
 ghost use Rattle.lf_base.specs.declared.ids.ObjId.{ObjId as Name};
 ghost use Rattle.lf_base.specs.Links.{has};
 ghost use Rattle.lf_base.specs.WriteResult.{put_field};
 ghost use Rattle.lf_pool.specs.Cells.{SameItems, node};
 ghost use Rattle.lf_pool.specs.Fields.{first_with};
 ghost use Rattle.lf_pool.specs.Pools.{Chain, IsLeft};
+ghost use Rattle.lf_graph.specs.Room.{room_for_field};
+ghost use Rattle.lf_graph.specs.RowChanges.{with_field_of};
 ghost use Rattle.lf_graph.specs.StoredRows.{field_value_at};
 ghost use Rattle.lf_poolstore.specs.Units.{KeepsFields, KeepsRow, StandsAt, Writes, fields_of, items_in};
 ghost use Rattle.lf_poolstore.specs.RowLists.{numbers};
@@ -104,5 +106,26 @@ impl Unit {
         ensures { (o : Name) → StandsAt self.now at o → result ≡ field_value_at self.now.rows o key }
     {
         value_of(&self.cells, self.rows.row(at).fields, key)
+    }
+
+    /// Sets a field of the row at a number, in its place where the row has it, and else
+    /// last, and gives the old value.
+    #[inline(always)]
+    pub fn set_field(&mut self, at: u32, key: Key, v: Value) -> Option<Value>
+        requires there { (o : Name) × StandsAt self.old at o × (room_for_field self.old.rows o key ≤ self.old.spare) }
+        ensures owner { self.new.owner ≡ self.old.owner }
+        ensures value { (o : Name) → StandsAt self.old at o → result ≡ field_value_at self.old.rows o key }
+        ensures rows { (o : Name) → StandsAt self.old at o → self.new.rows ≡ with_field_of self.old.rows o key v }
+        ensures places { self.new.places ≡ self.old.places }
+        ensures room { (o : Name) → StandsAt self.old at o → self.old.spare ≤ self.new.spare + room_for_field self.old.rows o key }
+    {
+        let row = self.rows.row(at);
+        let cell = cell_of(&self.cells, row.fields, key);
+        if cell == NONE {
+            let now = added(&mut self.cells, row, key, v);
+            self.rows.set(at, now);
+            return None;
+        }
+        Some(replaced(&mut self.cells, row, cell, key, v))
     }
 }
