@@ -1,16 +1,17 @@
 -- Fields found in chains of cells.
-use Rattle.std.proofs.Common.{◌≡◌, ℕ, true, false, cond, ◌||◌, ◌<◌, List, [], ◌∷◌, length, option_map, Option, Some, None, refl, ap, sym, ◌∙◌, subst, zero, suc, arith, ◌++◌, Bool}
+use Rattle.std.proofs.Common.{◌≡◌, ℕ, true, false, cond, ◌||◌, ◌<◌, List, [], ◌∷◌, length, option_map, Option, Some, None, refl, ap, sym, ◌∙◌, subst, zero, suc, arith, ◌++◌, Bool, not}
 use Rattle.std.specs.Prelude.{eqb}
 use Rattle.std.specs.List.{cons_option}
 use Rattle.std.proofs.Math.Bool.{or-true}
 use Rattle.std.proofs.lemmas.Bool.Decides.{Decides-eqb}
 use Rattle.lf_base.specs.declared.values.Key.{Key}
 use Rattle.lf_base.specs.declared.values.Value.{Value}
-use Rattle.lf_base.specs.Links.{Lacks, NodesDiffer, has}
+use Rattle.lf_base.specs.Links.{Lacks, NodesDiffer, has, without}
+use Rattle.lf_base.proofs.ListLemmas.LinkedLists.{without-lacking}
 use Rattle.lf_base.specs.WriteResult.{put_field}
 use Rattle.lf_pool.specs.declared.cell.Cell.{Cell}
 use Rattle.lf_base.specs.Names.{same_key}
-use Rattle.lf_base.specs.TakeResult.{field_at}
+use Rattle.lf_base.specs.TakeResult.{drop_field, field_at}
 use Rattle.lf_pool.specs.declared.cell.TheConstants.{NONE}
 use Rattle.lf_base.specs.Links.{walk}
 use Rattle.lf_pool.specs.Cells.{IsChain, item_at, link_at, node}
@@ -137,3 +138,34 @@ put_there m n k v cell here others (x ∷ xs) d h = go (put_there m n k v cell h
   go ih (Some p) e false s g =
       ap (λ w. cons_option w (items_in n xs)) (others x (elsewhere g) ∙ e) ∙ ap (λ l. p ∷ l) (ih g)
       ∙ sym (ap (λ b. cond b (pair k v ∷ items_in m xs) (p ∷ put_field (items_in m xs) k v)) s)
+
+pub drop_there : (m : FieldPool) (k : Key) (cell : ℕ) (xs : List ℕ) → NodesDiffer eqb xs → first_with m.cells k xs ≡ Some cell → items_in m (without eqb cell xs) ≡ drop_field (items_in m xs) k
+drop_there m k cell [] d h = absurd (cc h)
+drop_there m k cell (x ∷ xs) d h = go (drop_there m k cell xs d.1) (item_at m.cells x) refl (is_keyed k (item_at m.cells x)) refl h where
+  elsewhere : first_with m.cells k xs ≡ Some cell → eqb cell x ≡ false
+  elsewhere e = apart_of_member cell x xs (first_with_member m k xs cell e) d.0
+
+  kept : (t : Option (Key × Value)) → item_at m.cells x ≡ t → eqb cell x ≡ false → items_in m (without eqb cell (x ∷ xs)) ≡ cons_option t (items_in m (without eqb cell xs))
+  kept t e n = ap (λ b. items_in m (cond (not b) (x ∷ without eqb cell xs) (without eqb cell xs))) n ∙ ap (λ w. cons_option w (items_in m (without eqb cell xs))) e
+
+  go : (first_with m.cells k xs ≡ Some cell → items_in m (without eqb cell xs) ≡ drop_field (items_in m xs) k) → (t : Option (Key × Value)) → item_at m.cells x ≡ t → (b : Bool) → is_keyed k t ≡ b → cond b (Some x) (first_with m.cells k xs) ≡ Some cell
+      → items_in m (without eqb cell (x ∷ xs)) ≡ drop_field (cons_option t (items_in m xs)) k
+  go ih None e true s g = absurd (cc s)
+  go ih None e false s g = kept None e (elsewhere g) ∙ ih g
+  go ih (Some p) e true s g =
+      let same : x ≡ cell = some_is x cell g in
+      ap (λ b. items_in m (cond (not b) (x ∷ without eqb cell xs) (without eqb cell xs))) ((Decides-eqb cell x).1 (sym same))
+      ∙ ap (items_in m) (without-lacking eqb Decides-eqb cell xs (subst (λ y. Lacks eqb y xs) same d.0))
+      ∙ sym (ap (λ b. cond b (items_in m xs) (p ∷ drop_field (items_in m xs) k)) s)
+  go ih (Some p) e false s g = kept (Some p) e (elsewhere g) ∙ ap (λ l. p ∷ l) (ih g) ∙ sym (ap (λ b. cond b (items_in m xs) (p ∷ drop_field (items_in m xs) k)) s)
+
+pub drop_absent : (m : FieldPool) (k : Key) (xs : List ℕ) → first_with m.cells k xs ≡ None → drop_field (items_in m xs) k ≡ items_in m xs
+drop_absent m k [] h = refl
+drop_absent m k (x ∷ xs) h = go (drop_absent m k xs) (item_at m.cells x) h where
+  go : (first_with m.cells k xs ≡ None → drop_field (items_in m xs) k ≡ items_in m xs) → (t : Option (Key × Value)) → cond (is_keyed k t) (Some x) (first_with m.cells k xs) ≡ None
+      → drop_field (cons_option t (items_in m xs)) k ≡ cons_option t (items_in m xs)
+  go ih None e = ih e
+  go ih (Some p) e = elim (same_key p.0 k) as (λ b. cond b (Some x) (first_with m.cells k xs) ≡ None → cond b (items_in m xs) (p ∷ drop_field (items_in m xs) k) ≡ p ∷ items_in m xs) [
+    | true ↦ λ g. absurd (cc g)
+    | false ↦ λ g. ap (λ l. p ∷ l) (ih g)
+  ] e

@@ -1,15 +1,15 @@
 -- A field that is written in a row, and the rows that share no cells with it.
-use Rattle.std.proofs.Common.{◌≡◌, ◌≢◌, ◌⊎◌, ℕ, suc, Bool, true, false, cond, ◌||◌, ◌+◌, ◌<◌, ◌≤◌, List, [], ◌∷◌, ◌++◌, length, option_map, Option, Some, None, refl, ap, sym, ◌∙◌, subst, arith, length-append}
+use Rattle.std.proofs.Common.{◌≡◌, ◌≢◌, ℕ, Bool, true, false, cond, ◌+◌, ◌<◌, ◌≤◌, List, [], ◌∷◌, ◌++◌, length, Option, Some, None, refl, ap, sym, ◌∙◌, subst, arith, length-append, ◌-◌}
 use Rattle.std.specs.Prelude.{eqb}
 use Rattle.std.proofs.lemmas.Bool.Decides.{Decides-eqb}
 use Rattle.lf_base.specs.declared.values.Key.{Key}
 use Rattle.lf_base.specs.declared.values.Value.{Value}
-use Rattle.lf_base.specs.Links.{has, head_or}
-use Rattle.lf_base.specs.Names.{same_key}
+use Rattle.lf_base.specs.Links.{has, head_or, without}
+use Rattle.lf_base.specs.TakeResult.{drop_field}
+use Rattle.lf_base.proofs.ListLemmas.LinkedLists.{length-without}
 use Rattle.lf_base.specs.WriteResult.{put_field}
 use Rattle.lf_base.proofs.NameLemmas.SameNames.{same_key_is}
-use Rattle.lf_pool.specs.declared.cell.TheConstants.{NONE}
-use Rattle.lf_pool.specs.Cells.{IsChain, item_at, link_at, node}
+use Rattle.lf_pool.specs.Cells.{item_at, link_at, node}
 use Rattle.lf_pool.specs.Fields.{first_with, is_keyed}
 use Rattle.lf_pool.specs.Pools.{Chain, IsLeft}
 use Rattle.lf_pool.proofs.Chains.{begins, same_chain}
@@ -18,8 +18,8 @@ use Rattle.lf_pool.proofs.Joins.{some_is}
 use Rattle.lf_poolstore.specs.declared.unit_row.UnitRow.{UnitRow}
 use Rattle.lf_poolstore.specs.RowLists.{numbers}
 use Rattle.lf_poolstore.specs.Units.{Apart, FieldPool, KeepsFields, Writes, fields_of, items_in}
-use Rattle.lf_poolstore.proofs.CellFields.{first_with_member, items_more, items_same, pair, put_absent, put_there}
-use Rattle.lf_poolstore.proofs.RowLists.{lacked, left_kept, not_same, numbers_are}
+use Rattle.lf_poolstore.proofs.CellFields.{drop_there, first_with_member, items_more, items_same, pair, put_absent, put_there}
+use Rattle.lf_poolstore.proofs.RowLists.{begins_elsewhere, first_chain, has_others, has_without, lacked, left_kept, not_same, numbers_are}
 
 -- a member is another cell than one that the list lacks
 pub other_cell : (xs : List ℕ) (cell q : ℕ) → has eqb cell xs ≡ false → has eqb q xs ≡ true → eqb cell q ≡ false
@@ -146,4 +146,59 @@ module _ (m one n : FieldPool) (row : UnitRow) (keeps : KeepsFields m row) (k : 
             let h : has eqb c (numbers m s.fields) ≡ true = begins c (numbers m s.fields) (l.chain.begins ∙ f) in
             let g : has eqb cell (numbers m s.fields) ≡ true = subst (λ y. has eqb y (numbers m s.fields) ≡ true) is_cell h in
             let o = s_lacks s l in
+            cc (g, o)
+
+-- a cell of the row is taken out and given back
+module _ (m one n : FieldPool) (row : UnitRow) (keeps : KeepsFields m row) (k : Key) (cell : ℕ) (found : first_with m.cells k (numbers m row.fields) ≡ Some cell) where
+  in_row : has eqb cell (numbers m row.fields) ≡ true
+  in_row = first_with_member m k (numbers m row.fields) cell found
+
+  pub row_chain : Chain m row.fields (numbers m row.fields)
+  row_chain = first_chain m row.fields (numbers m row.fields) cell keeps.chain in_row
+
+  pub some_width : 0 < row.width
+  some_width = let e = length-without eqb Decides-eqb cell (numbers m row.fields) keeps.chain.chain.differ in_row in let w = keeps.count in omega (arith, e, w)
+
+  module _ (now : UnitRow) (list : IsLeft one (node now.fields) (without eqb cell (numbers m row.fields))) (width : now.width ≡ row.width - 1)
+      (parted : (d : ℕ) → (zs : List ℕ) → Chain m d zs → d ≢ row.fields → Chain one d zs) (given : (d : ℕ) → (zs : List ℕ) → Chain one d zs → d ≢ cell → Chain n d zs)
+      (items : (q : ℕ) → item_at n.cells q ≡ item_at m.cells q) where
+    list_left : IsLeft n (node now.fields) (without eqb cell (numbers m row.fields))
+    list_left = left_kept one n (node now.fields) (without eqb cell (numbers m row.fields)) list
+        (λ d z. given d (without eqb cell (numbers m row.fields)) z (begins_elsewhere one cell d (without eqb cell (numbers m row.fields)) (has_without cell (numbers m row.fields)) z))
+
+    left_is : numbers n now.fields ≡ without eqb cell (numbers m row.fields)
+    left_is = numbers_are n now.fields (without eqb cell (numbers m row.fields)) list_left
+
+    pub dropped_writes : Writes m n row now (drop_field (fields_of m row) k)
+    dropped_writes =
+        record {
+          keeps = record {
+            chain = subst (IsLeft n (node now.fields)) (sym left_is) list_left;
+            count = ap length left_is ∙ fewer;
+          };
+          here = ap (items_in n) left_is ∙ items_same m n (without eqb cell (numbers m row.fields)) (λ q _. items q) ∙ drop_there m k cell (numbers m row.fields) keeps.chain.chain.differ found;
+          others = λ s l a. (
+            keeps_on m n s l (stay s l a),
+            ap (items_in n) (numbers_on m n s l (stay s l a)) ∙ items_same m n (numbers m s.fields) (λ q _. items q),
+            λ c e f. apart_now s l a c e f,
+          );
+        }
+      where
+        fewer : length (without eqb cell (numbers m row.fields)) ≡ now.width
+        fewer = let e = length-without eqb Decides-eqb cell (numbers m row.fields) keeps.chain.chain.differ in_row in let w = keeps.count in omega (arith, e, w, width)
+
+        stay : (s : UnitRow) → KeepsFields m s → Apart row s → (c : ℕ) → Chain m c (numbers m s.fields) → Chain n c (numbers m s.fields)
+        stay s l a c z =
+            given c (numbers m s.fields)
+            (parted c (numbers m s.fields) z (λ e. a c (sym keeps.chain.begins ∙ row_chain.0.1 ∙ ap Some (sym e)) (sym l.chain.begins ∙ z.0.1)))
+            (begins_elsewhere m cell c (numbers m s.fields) (apart_cells m row s keeps l a cell in_row) z)
+
+        was_there : (q : ℕ) → has eqb q (without eqb cell (numbers m row.fields)) ≡ true → has eqb q (numbers m row.fields) ≡ true
+        was_there q h = sym (has_others cell q (numbers m row.fields) (not_same cell q (without eqb cell (numbers m row.fields)) (has_without cell (numbers m row.fields)) h)) ∙ h
+
+        apart_now : (s : UnitRow) → KeepsFields m s → Apart row s → (c : ℕ) → node now.fields ≡ Some c → node s.fields ≡ Some c → ⊥
+        apart_now s l a c e f =
+            let h = was_there c (begins c (without eqb cell (numbers m row.fields)) (list_left.begins ∙ e)) in
+            let g : has eqb c (numbers m s.fields) ≡ true = begins c (numbers m s.fields) (l.chain.begins ∙ f) in
+            let o = apart_cells m row s keeps l a c h in
             cc (g, o)

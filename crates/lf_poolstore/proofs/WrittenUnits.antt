@@ -1,23 +1,20 @@
 -- A unit in which a field of one row was written.
-use Rattle.std.proofs.Common.{◌≡◌, ◌≢◌, ℕ, zero, suc, Bool, true, false, cond, ◌||◌, List, [], ◌∷◌, length, map, option_map, Option, Some, None, refl, ap, sym, ◌∙◌, subst}
-use Rattle.std.specs.Prelude.{eqb, ltb}
+use Rattle.std.proofs.Common.{◌≡◌, ℕ, Bool, true, false, cond, List, [], ◌∷◌, option_map, Some, refl, ap, sym, ◌∙◌, subst}
+use Rattle.std.specs.Prelude.{eqb}
 use Rattle.std.specs.Option.{IsSome}
-use Rattle.std.proofs.Math.Bool.{or-true}
 use Rattle.std.proofs.lemmas.Bool.Decides.{Decides-eqb}
 use Rattle.lf_base.specs.declared.ids.ObjId.{ObjId}
 use Rattle.lf_base.specs.declared.values.Key.{Key}
 use Rattle.lf_base.specs.declared.values.Value.{Value}
 use Rattle.lf_base.specs.declared.values.Owner.{Owner}
-use Rattle.lf_base.specs.Links.{NodesDiffer, head_or}
+use Rattle.lf_base.specs.Links.{NodesDiffer}
 use Rattle.lf_base.specs.Names.{same_name}
 use Rattle.lf_base.proofs.NameLemmas.SameNames.{same_name_flips}
-use Rattle.lf_pool.specs.declared.cell.TheConstants.{NONE}
 use Rattle.lf_pool.specs.Cells.{node}
 use Rattle.lf_graph.specs.RowChanges.{changed, with_fields}
 use Rattle.lf_graph.specs.StoredRows.{CountedRow}
 use Rattle.lf_poolstore.specs.declared.unit_row.UnitRow.{UnitRow}
-use Rattle.lf_poolstore.specs.RowLists.{entry_at, names_in, numbers, numbers_in, with_entry}
-use Rattle.lf_poolstore.specs.UnitRows.{is_live}
+use Rattle.lf_poolstore.specs.RowLists.{entry_at, numbers_in, with_entry}
 use Rattle.lf_poolstore.specs.Units.{Apart, FieldPool, IsUnit, KeepsFields, KeepsRow, Writes, fields_of, places_in, rows_in, whole}
 use Rattle.lf_poolstore.proofs.Entries.{Agree, Entries, entry_set, names_set, numbers_set, places_set}
 use Rattle.lf_poolstore.proofs.SeenUnits.{found_later, same_row}

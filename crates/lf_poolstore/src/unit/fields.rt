@@ -8,11 +8,11 @@ ghost use Rattle.lf_pool.specs.Cells.{SameItems, node};
 ghost use Rattle.lf_pool.specs.Fields.{first_with};
 ghost use Rattle.lf_pool.specs.Pools.{Chain, IsLeft};
 ghost use Rattle.lf_graph.specs.Room.{room_for_field};
-ghost use Rattle.lf_graph.specs.RowChanges.{with_field_of};
+ghost use Rattle.lf_graph.specs.RowChanges.{with_field_of, without_field_of};
 ghost use Rattle.lf_graph.specs.StoredRows.{field_value_at};
 ghost use Rattle.lf_poolstore.specs.Units.{KeepsFields, KeepsRow, StandsAt, Writes, fields_of, items_in};
 ghost use Rattle.lf_poolstore.specs.RowLists.{numbers};
-ghost use Rattle.lf_base.specs.TakeResult.{field_at};
+ghost use Rattle.lf_base.specs.TakeResult.{drop_field, field_at};
 
 use crate::unit::Unit;
 use crate::unit_row::UnitRow;
@@ -98,6 +98,24 @@ fn replaced(cells: &mut CellPool, row: UnitRow, cell: u32, key: Key, v: Value) -
     old
 }
 
+// Takes a cell out of a row and gives it back: the row that is to be kept.
+#[inline(always)]
+fn dropped(cells: &mut CellPool, row: UnitRow, cell: u32, key: Key) -> UnitRow
+    requires keeps { KeepsFields cells.old row }
+    requires found { first_with cells.old.cells key (numbers cells.old row.fields) ≡ Some cell }
+    ensures row { KeepsRow row result }
+    ensures written { Writes cells.old cells.new row result (drop_field (fields_of cells.old row) key) }
+    ensures room { cells.old.spare ≤ cells.new.spare }
+{
+    let fields = cells.part(row.fields, cell);
+    cells.give(cell);
+    UnitRow {
+        fields,
+        width: row.width - 1,
+        ..row
+    }
+}
+
 impl Unit {
     /// The value of a field of the row at a number, where the row has it.
     #[inline(always)]
@@ -127,5 +145,26 @@ impl Unit {
             return None;
         }
         Some(replaced(&mut self.cells, row, cell, key, v))
+    }
+
+    /// Takes a field out of the row at a number and gives its value, where the row has it.
+    #[inline(always)]
+    pub fn take_field(&mut self, at: u32, key: Key) -> Option<Value>
+        requires there { (o : Name) × StandsAt self.old at o }
+        ensures owner { self.new.owner ≡ self.old.owner }
+        ensures value { (o : Name) → StandsAt self.old at o → result ≡ field_value_at self.old.rows o key }
+        ensures rows { (o : Name) → StandsAt self.old at o → self.new.rows ≡ without_field_of self.old.rows o key }
+        ensures places { self.new.places ≡ self.old.places }
+        ensures room { self.old.spare ≤ self.new.spare }
+    {
+        let row = self.rows.row(at);
+        let cell = cell_of(&self.cells, row.fields, key);
+        if cell == NONE {
+            return None;
+        }
+        let value = self.cells.pair(cell).1;
+        let now = dropped(&mut self.cells, row, cell, key);
+        self.rows.set(at, now);
+        Some(value)
     }
 }

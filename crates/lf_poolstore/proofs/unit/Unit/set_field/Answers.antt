@@ -1,4 +1,4 @@
-use Rattle.std.proofs.Common.{ℕ, None, Some, ap, arith, cond, is_some, refl, subst, sym, ◌∙◌, ◌≡◌}
+use Rattle.std.proofs.Common.{ℕ, None, ap, arith, cond, is_some, refl, subst, sym, ◌∙◌, ◌≡◌}
 use Rattle.lf_base.specs.TakeResult.{field_at}
 use Rattle.lf_base.specs.WriteResult.{put_field}
 use Rattle.lf_graph.specs.RowChanges.{with_field_of}
@@ -25,7 +25,7 @@ added-now-requires-clause-room c =
     let xs = numbers cells c.row-row.result.fields in
     let seen = row_seen c.self.inside.owner c.self.inside.rows cells c.args.self.now (record { unit = c.self.invariant; is = c.self.view_is }) c.args.at c.requires.there.0 c.requires.there.1 c.row-row.result c.row-row.ensures.row in
     let none : field_value_at c.args.self.now.rows c.requires.there.0 c.args.key ≡ None =
-        ap (λ t. field_at (fields_by t) c.args.key) seen ∙ value_found cells c.args.key xs ∙ ap (value_in cells) (sym c.cell_of-cell.ensures ∙ no_number c.cell_of-cell.result c.if-cell.true) in
+    ap (λ t. field_at (fields_by t) c.args.key) seen ∙ value_found cells c.args.key xs ∙ ap (value_in cells) (sym c.cell_of-cell.ensures ∙ no_number c.cell_of-cell.result c.if-cell.true) in
     let need = ap {B = ℕ} (λ t. cond (is_some t) 0 1) none in
     let spare = ap (λ (v : UnitView). v.spare) c.self.view_is in
     omega (arith, need, spare, c.requires.there.2)
@@ -48,7 +48,7 @@ returns-then-cell-clause-rows c o here =
     let es = c.self.inside.rows.entries in
     ap (rows_in c.self.inside.owner c.added-now.new.cells) c.set.ensures.entries
     ∙ written_rows c.self.inside.cells c.added-now.new.cells es c.self.invariant c.args.at c.row-row.result c.added-now.result c.row-row.ensures.row c.added-now.ensures.row _ c.added-now.ensures.written
-        c.self.inside.owner o (λ fs. put_field fs c.args.key c.args.v) refl es s.agree c.self.invariant.numbers_differ (λ x r f. f)
+    c.self.inside.owner o (λ fs. put_field fs c.args.key c.args.v) refl es s.agree c.self.invariant.numbers_differ (λ x r f. f)
     ∙ ap (λ (v : UnitView). with_field_of v.rows o c.args.key c.args.v) c.self.view_is
 
 pub returns-then-cell-clause-places : goal.returns-then-cell-clause-places
@@ -63,7 +63,7 @@ returns-then-cell-clause-room c o here =
     let xs = numbers cells c.row-row.result.fields in
     let seen = row_seen c.self.inside.owner c.self.inside.rows cells c.args.self.now (record { unit = c.self.invariant; is = c.self.view_is }) c.args.at o here c.row-row.result c.row-row.ensures.row in
     let none : field_value_at c.args.self.now.rows o c.args.key ≡ None =
-        ap (λ t. field_at (fields_by t) c.args.key) seen ∙ value_found cells c.args.key xs ∙ ap (value_in cells) (sym c.cell_of-cell.ensures ∙ no_number c.cell_of-cell.result c.if-cell.true) in
+    ap (λ t. field_at (fields_by t) c.args.key) seen ∙ value_found cells c.args.key xs ∙ ap (value_in cells) (sym c.cell_of-cell.ensures ∙ no_number c.cell_of-cell.result c.if-cell.true) in
     let need = ap {B = ℕ} (λ t. cond (is_some t) 0 1) none in
     let spare = ap (λ (v : UnitView). v.spare) c.self.view_is in
     omega (arith, need, spare, c.set.ensures.room, c.added-now.ensures.room)
@@ -91,5 +91,5 @@ returns-clause-rows c o here =
     let r = c.row-row.result in
     sym (ap (rows_in c.self.inside.owner c.replaced.new.cells) (same_entry c.args.at r es c.self.invariant.numbers_differ (λ x f. same_row (sym f ∙ c.row-row.ensures.row))))
     ∙ written_rows c.self.inside.cells c.replaced.new.cells es c.self.invariant c.args.at r r c.row-row.ensures.row (record { name = refl; refs = refl }) _ c.replaced.ensures.written
-        c.self.inside.owner o (λ fs. put_field fs c.args.key c.args.v) refl es s.agree c.self.invariant.numbers_differ (λ x t f. f)
+    c.self.inside.owner o (λ fs. put_field fs c.args.key c.args.v) refl es s.agree c.self.invariant.numbers_differ (λ x t f. f)
     ∙ ap (λ (v : UnitView). with_field_of v.rows o c.args.key c.args.v) c.self.view_is

@@ -1,5 +1,4 @@
 use Rattle.std.proofs.Common.{arith, refl, ◌+◌}
-use Rattle.lf_poolstore.specs.declared.unit_row.UnitRow.{UnitRow}
 use Rattle.lf_poolstore.proofs.Written.{added_writes, fits, list_before}
 use Rattle.lf_poolstore.proofs.unit.fields.added.Goals as goal
 

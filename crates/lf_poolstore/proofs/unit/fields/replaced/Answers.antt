@@ -1,4 +1,4 @@
-use Rattle.std.proofs.Common.{Some, ap, option_map, sym, ◌∙◌}
+use Rattle.std.proofs.Common.{ap, option_map, sym, ◌∙◌}
 use Rattle.lf_base.specs.declared.values.Key.{Key}
 use Rattle.lf_base.specs.declared.values.Value.{Value}
 use Rattle.lf_poolstore.specs.RowLists.{numbers}
