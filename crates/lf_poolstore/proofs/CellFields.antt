@@ -6,7 +6,9 @@ use Rattle.std.proofs.Math.Bool.{or-true}
 use Rattle.std.proofs.lemmas.Bool.Decides.{Decides-eqb}
 use Rattle.lf_base.specs.declared.values.Key.{Key}
 use Rattle.lf_base.specs.declared.values.Value.{Value}
-use Rattle.lf_base.specs.Links.{Lacks, NodesDiffer, has, without}
+use Rattle.lf_base.specs.Links.{Lacks, NodesDiffer, after, has, head_or, without}
+use Rattle.lf_base.specs.FieldOrder.{field_past}
+use Rattle.lf_base.proofs.NameLemmas.SameNames.{same_key_is, same_key_itself}
 use Rattle.lf_base.proofs.ListLemmas.LinkedLists.{without-lacking}
 use Rattle.lf_base.specs.WriteResult.{put_field}
 use Rattle.lf_pool.specs.declared.cell.Cell.{Cell}
@@ -19,7 +21,7 @@ use Rattle.lf_pool.specs.Fields.{first_with, is_keyed}
 use Rattle.lf_pool.specs.Pools.{Chain, IsLeft}
 use Rattle.lf_pool.proofs.Joins.{chain_in_range, some_is}
 use Rattle.lf_poolstore.specs.RowLists.{numbers}
-use Rattle.lf_poolstore.specs.Units.{FieldPool, items_in}
+use Rattle.lf_poolstore.specs.Units.{FieldPool, items_in, pair_by}
 use Rattle.lf_poolstore.proofs.RowLists.{as_chain, node_same, walk_none}
 
 abbrev pub pair : Key → Value → Key × Value
@@ -169,3 +171,61 @@ drop_absent m k (x ∷ xs) h = go (drop_absent m k xs) (item_at m.cells x) h whe
     | true ↦ λ g. absurd (cc g)
     | false ↦ λ g. ap (λ l. p ∷ l) (ih g)
   ] e
+
+-- ---- the field after one
+same_key_flips : (a b : Key) → same_key a b ≡ same_key b a
+same_key_flips a b = go (same_key a b) refl (same_key b a) refl where
+  go : (s : Bool) → same_key a b ≡ s → (t : Bool) → same_key b a ≡ t → s ≡ t
+  go true e true f = refl
+  go false e false f = refl
+  go true e false f = let k : same_key b a ≡ true = ap (same_key b) (same_key_is a b e) ∙ same_key_itself b in absurd (cc (k, f))
+  go false e true f = let k : same_key a b ≡ true = ap (same_key a) (same_key_is b a f) ∙ same_key_itself a in absurd (cc (k, e))
+
+head_found : (m : FieldPool) (xs : List ℕ) → ((q : ℕ) → has eqb q xs ≡ true → q < length m.cells) → pair_by m (head_or xs None) ≡ head_or (items_in m xs) None
+head_found m [] k = refl
+head_found m (x ∷ xs) k =
+    let t = item_there m.cells x (k x (ap (λ b. b || has eqb x xs) ((Decides-eqb x x).1 refl))) in
+    t.1 ∙ sym (ap (λ w. head_or (cons_option w (items_in m xs)) None) t.1)
+
+pub past_found : (m : FieldPool) (k : Key) (cell : ℕ) (xs : List ℕ) → NodesDiffer eqb xs → ((q : ℕ) → has eqb q xs ≡ true → q < length m.cells) → first_with m.cells k xs ≡ Some cell
+    → pair_by m (after eqb cell xs) ≡ field_past (items_in m xs) k
+past_found m k cell [] d r h = absurd (cc h)
+past_found m k cell (x ∷ xs) d r h = go (past_found m k cell xs d.1 later) (item_at m.cells x) refl (is_keyed k (item_at m.cells x)) refl h where
+  later : (q : ℕ) → has eqb q xs ≡ true → q < length m.cells
+  later q g = r q (ap (λ b. eqb q x || b) g ∙ or-true (eqb q x))
+
+  elsewhere : first_with m.cells k xs ≡ Some cell → eqb cell x ≡ false
+  elsewhere e = apart_of_member cell x xs (first_with_member m k xs cell e) d.0
+
+  go : (first_with m.cells k xs ≡ Some cell → pair_by m (after eqb cell xs) ≡ field_past (items_in m xs) k) → (t : Option (Key × Value)) → item_at m.cells x ≡ t → (b : Bool) → is_keyed k t ≡ b → cond b (Some x) (first_with m.cells k xs) ≡ Some cell
+      → pair_by m (cond (eqb cell x) (head_or xs None) (after eqb cell xs)) ≡ field_past (cons_option t (items_in m xs)) k
+  go ih None e true s g = absurd (cc s)
+  go ih None e false s g = ap (λ b. pair_by m (cond b (head_or xs None) (after eqb cell xs))) (elsewhere g) ∙ ih g
+  go ih (Some p) e true s g =
+      ap (λ b. pair_by m (cond b (head_or xs None) (after eqb cell xs))) ((Decides-eqb cell x).1 (sym (some_is x cell g)))
+      ∙ head_found m xs later ∙ sym (ap (λ b. cond b (head_or (items_in m xs) None) (field_past (items_in m xs) k)) (same_key_flips k p.0 ∙ s))
+  go ih (Some p) e false s g =
+      ap (λ b. pair_by m (cond b (head_or xs None) (after eqb cell xs))) (elsewhere g) ∙ ih g
+      ∙ sym (ap (λ b. cond b (head_or (items_in m xs) None) (field_past (items_in m xs) k)) (same_key_flips k p.0 ∙ s))
+
+pub past_none : (m : FieldPool) (k : Key) (xs : List ℕ) → first_with m.cells k xs ≡ None → None ≡ field_past (items_in m xs) k
+past_none m k [] h = refl
+past_none m k (x ∷ xs) h = go (past_none m k xs) (item_at m.cells x) (is_keyed k (item_at m.cells x)) refl h where
+  go : (first_with m.cells k xs ≡ None → None ≡ field_past (items_in m xs) k) → (t : Option (Key × Value)) → (b : Bool) → is_keyed k t ≡ b → cond b (Some x) (first_with m.cells k xs) ≡ None → None ≡ field_past (cons_option t (items_in m xs)) k
+  go ih None true s g = absurd (cc g)
+  go ih None false s g = ih g
+  go ih (Some p) true s g = absurd (cc g)
+  go ih (Some p) false s g = ih g ∙ sym (ap (λ b. cond b (head_or (items_in m xs) None) (field_past (items_in m xs) k)) (same_key_flips k p.0 ∙ s))
+
+pub after_in_range : (m : FieldPool) (first : ℕ) (xs : List ℕ) (cell x : ℕ) → IsLeft m (node first) xs → after eqb cell xs ≡ Some x → x < length m.cells
+after_in_range m first xs cell x l e = chain_in_range m.cells xs x l.chain (member xs e) where
+  head_in : (ys : List ℕ) → head_or ys None ≡ Some x → has eqb x ys ≡ true
+  head_in [] g = absurd (cc g)
+  head_in (y ∷ ys) g = ap (λ b. b || has eqb x ys) ((Decides-eqb x y).1 (sym (some_is y x g)))
+
+  member : (ys : List ℕ) → after eqb cell ys ≡ Some x → has eqb x ys ≡ true
+  member [] g = absurd (cc g)
+  member (y ∷ ys) g = ap (λ b. eqb x y || b) (go (λ h. member ys h) (eqb cell y) g) ∙ or-true (eqb x y) where
+    go : (after eqb cell ys ≡ Some x → has eqb x ys ≡ true) → (b : Bool) → cond b (head_or ys None) (after eqb cell ys) ≡ Some x → has eqb x ys ≡ true
+    go ih true h = head_in ys h
+    go ih false h = ih h

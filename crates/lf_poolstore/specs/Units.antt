@@ -1,5 +1,5 @@
 -- A unit: the rows of one owner, in order, and where each stands.
-use Rattle.std.specs.Prelude.{List, Option, Some, eqb, false, filter_map, length, map, min, ℕ, ◌≡◌, ◌≢◌}
+use Rattle.std.specs.Prelude.{List, Option, Some, eqb, false, filter_map, length, map, min, ℕ, ◌≡◌, ◌≢◌, None}
 use Rattle.std.specs.Map.{lookup}
 use Rattle.lf_base.specs.declared.ids.ObjId.{ObjId}
 use Rattle.lf_base.specs.declared.values.Key.{Key}
@@ -19,6 +19,11 @@ FieldPool = PoolView (Key × Value)
 -- the fields in these cells
 abbrev pub items_in : FieldPool → List ℕ → List (Key × Value)
 items_in cells xs = filter_map (item_at cells.cells) xs
+
+-- the field in a cell, where there is one
+abbrev pub pair_by : FieldPool → Option ℕ → Option (Key × Value)
+pair_by cells None = None
+pair_by cells (Some x) = item_at cells.cells x
 
 -- the fields of a row
 abbrev pub fields_of : FieldPool → UnitRow → List (Key × Value)
