@@ -83,7 +83,7 @@ none_found cells k first e =
     sym (ap (λ t. first_with cells.cells k (walk (length cells.cells) (link_at cells.cells) t)) e ∙ ap (first_with cells.cells k) (walk_none (length cells.cells) (link_at cells.cells)))
 
 -- ---- all cells of a chain have items
-item_there : {T : Type 0} (cells : List (Cell T)) (q : ℕ) → q < length cells → (t : T) × (item_at cells q ≡ Some t)
+pub item_there : {T : Type 0} (cells : List (Cell T)) (q : ℕ) → q < length cells → (t : T) × (item_at cells q ≡ Some t)
 item_there [] q l = absurd (omega (arith, l))
 item_there (c ∷ cells) zero l = (c.item, refl)
 item_there (c ∷ cells) (suc q) l = item_there cells q (omega (arith, l))
@@ -181,7 +181,7 @@ same_key_flips a b = go (same_key a b) refl (same_key b a) refl where
   go true e false f = let k : same_key b a ≡ true = ap (same_key b) (same_key_is a b e) ∙ same_key_itself b in absurd (cc (k, f))
   go false e true f = let k : same_key a b ≡ true = ap (same_key a) (same_key_is b a f) ∙ same_key_itself a in absurd (cc (k, e))
 
-head_found : (m : FieldPool) (xs : List ℕ) → ((q : ℕ) → has eqb q xs ≡ true → q < length m.cells) → pair_by m (head_or xs None) ≡ head_or (items_in m xs) None
+pub head_found : (m : FieldPool) (xs : List ℕ) → ((q : ℕ) → has eqb q xs ≡ true → q < length m.cells) → pair_by m (head_or xs None) ≡ head_or (items_in m xs) None
 head_found m [] k = refl
 head_found m (x ∷ xs) k =
     let t = item_there m.cells x (k x (ap (λ b. b || has eqb x xs) ((Decides-eqb x x).1 refl))) in

@@ -1,5 +1,6 @@
 pub mod RowLists
 pub mod CellFields
+pub mod FieldPlaces
 pub mod Entries
 pub mod SeenUnits
 pub mod EntryLists

@@ -1,4 +1,5 @@
 mod changes;
+mod field_walks;
 mod fields;
 mod reads;
 

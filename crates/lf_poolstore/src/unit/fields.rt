@@ -10,9 +10,8 @@ ghost use Rattle.lf_pool.specs.Pools.{Chain, IsLeft};
 ghost use Rattle.lf_graph.specs.Room.{room_for_field};
 ghost use Rattle.lf_graph.specs.RowChanges.{with_field_of, without_field_of};
 ghost use Rattle.lf_graph.specs.StoredRows.{field_value_at};
-ghost use Rattle.lf_poolstore.specs.Units.{KeepsFields, KeepsRow, StandsAt, Writes, fields_of, items_in, pair_by};
+ghost use Rattle.lf_poolstore.specs.Units.{KeepsFields, KeepsRow, StandsAt, Writes, fields_of, items_in};
 ghost use Rattle.lf_poolstore.specs.RowLists.{numbers};
-ghost use Rattle.lf_base.specs.FieldOrder.{field_past};
 ghost use Rattle.lf_base.specs.TakeResult.{drop_field, field_at};
 
 use crate::unit::Unit;
@@ -22,7 +21,7 @@ use lf_pool::{CellPool, NONE};
 
 // The first of the cells from one on that has the key, or `NONE`.
 #[inline(always)]
-fn cell_of(cells: &CellPool, first: u32, key: Key) -> u32
+pub(super) fn cell_of(cells: &CellPool, first: u32, key: Key) -> u32
     requires { IsLeft cells.now (node first) (numbers cells.now first) }
     ensures { node result ≡ first_with cells.now.cells key (numbers cells.now first) }
 {
@@ -43,20 +42,6 @@ fn value_of(cells: &CellPool, first: u32, key: Key) -> Option<Value>
         return None;
     }
     Some(cells.pair(cell).1)
-}
-
-// The cell after that of a key among the cells from one on, or `NONE`.
-#[inline(always)]
-fn cell_past(cells: &CellPool, first: u32, key: Key) -> u32
-    requires { IsLeft cells.now (node first) (numbers cells.now first) }
-    ensures field { pair_by cells.now (node result) ≡ field_past (items_in cells.now (numbers cells.now first)) key }
-    ensures there { (x : ℕ) → node result ≡ Some x → x < length cells.now.cells }
-{
-    let cell = cell_of(cells, first, key);
-    if cell == NONE {
-        return NONE;
-    }
-    cells.behind(cell)
 }
 
 // Puts a cell that is a chain of its own at the end of a chain that may be empty, and gives

@@ -4,7 +4,7 @@ use Rattle.lf_pool.proofs.Joins.{chain_in_range}
 use Rattle.lf_poolstore.specs.RowLists.{numbers}
 use Rattle.lf_poolstore.specs.Units.{pair_by}
 use Rattle.lf_poolstore.proofs.CellFields.{after_in_range, first_with_member, no_number, past_found, past_none}
-use Rattle.lf_poolstore.proofs.unit.fields.cell_past.Goals as goal
+use Rattle.lf_poolstore.proofs.unit.field_walks.cell_past.Goals as goal
 
 pub returns-then-cell-clause-field : goal.returns-then-cell-clause-field
 returns-then-cell-clause-field c = past_none c.args.cells.now c.args.key (numbers c.args.cells.now c.args.first) (sym c.cell_of-cell.ensures ∙ no_number c.cell_of-cell.result c.if-cell.true)
