@@ -18,7 +18,7 @@ use Rattle.lf_pool.proofs.Joins.{some_is}
 use Rattle.lf_poolstore.specs.declared.unit_row.UnitRow.{UnitRow}
 use Rattle.lf_poolstore.specs.RowLists.{numbers}
 use Rattle.lf_poolstore.specs.Units.{Apart, FieldPool, KeepsFields, Writes, fields_of, items_in}
-use Rattle.lf_poolstore.proofs.CellFields.{drop_there, first_with_member, items_more, items_same, pair, put_absent, put_there}
+use Rattle.lf_poolstore.proofs.CellFields.{drop_there, first_with_member, items_more, items_same, pair, put_there}
 use Rattle.lf_poolstore.proofs.RowLists.{begins_elsewhere, first_chain, has_others, has_without, lacked, left_kept, not_same, numbers_are}
 
 -- a member is another cell than one that the list lacks
@@ -84,7 +84,7 @@ module _ (m n : FieldPool) (row : UnitRow) (keeps : KeepsFields m row) (k : Key)
       }
 
 -- a cell comes to the row
-module _ (m one n : FieldPool) (row : UnitRow) (keeps : KeepsFields m row) (k : Key) (v : Value) (cell : ℕ) (new : first_with m.cells k (numbers m row.fields) ≡ None)
+module _ (m one n : FieldPool) (row : UnitRow) (keeps : KeepsFields m row) (k : Key) (v : Value) (cell : ℕ)
     (taken : (d : ℕ) → (zs : List ℕ) → Chain m d zs → Chain one d zs × (has eqb cell zs ≡ false)) (item : item_at one.cells cell ≡ Some (pair k v))
     (items : (q : ℕ) → eqb cell q ≡ false → item_at one.cells q ≡ item_at m.cells q) where
   pub one_left : IsLeft one (node row.fields) (numbers m row.fields)
@@ -115,7 +115,7 @@ module _ (m one n : FieldPool) (row : UnitRow) (keeps : KeepsFields m row) (k : 
         let w = keeps.count in
         omega (arith, l, e, w)
 
-    pub added_writes : Writes m n row now (put_field (fields_of m row) k v)
+    pub added_writes : Writes m n row now (fields_of m row ++ pair k v ∷ [])
     added_writes =
         record {
           keeps = record {
@@ -123,8 +123,7 @@ module _ (m one n : FieldPool) (row : UnitRow) (keeps : KeepsFields m row) (k : 
             count = ap length now_is ∙ length-append (numbers m row.fields) (cell ∷ []) ∙ ap (λ t. t + 1) keeps.count ∙ sym width;
           };
           here = ap (items_in n) now_is ∙ items_more n (numbers m row.fields) cell (pair k v) (same cell ∙ item)
-              ∙ ap (λ l. l ++ pair k v ∷ []) (items_same m n (numbers m row.fields) (λ q h. same q ∙ items q (other_cell (numbers m row.fields) cell q one_lacks h)))
-              ∙ sym (put_absent m k v (numbers m row.fields) new);
+              ∙ ap (λ l. l ++ pair k v ∷ []) (items_same m n (numbers m row.fields) (λ q h. same q ∙ items q (other_cell (numbers m row.fields) cell q one_lacks h)));
           others = λ s l a. (
             keeps_on m n s l (stay s l a),
             ap (items_in n) (numbers_on m n s l (stay s l a)) ∙ items_same m n (numbers m s.fields) (λ q h. same q ∙ items q (other_cell (numbers m s.fields) cell q (s_lacks s l) h)),

@@ -65,14 +65,13 @@ fn chained(cells: &mut CellPool, first: u32, cell: u32) -> u32
     first
 }
 
-// Gives a row a field that it hasn't: the row that is to be kept.
+// Gives a row one field more, last: the row that is to be kept.
 #[inline(always)]
-fn added(cells: &mut CellPool, row: UnitRow, key: Key, v: Value) -> UnitRow
+pub(super) fn added(cells: &mut CellPool, row: UnitRow, key: Key, v: Value) -> UnitRow
     requires keeps { KeepsFields cells.old row }
-    requires new { first_with cells.old.cells key (numbers cells.old row.fields) ≡ None }
     requires room { 0 < cells.old.spare }
     ensures row { KeepsRow row result }
-    ensures written { Writes cells.old cells.new row result (put_field (fields_of cells.old row) key v) }
+    ensures written { Writes cells.old cells.new row result (fields_of cells.old row ++ (key, v) ∷ []) }
     ensures room { cells.old.spare ≡ cells.new.spare + 1 }
 {
     let cell = cells.take(key, v);

@@ -5,7 +5,7 @@ use Rattle.lf_graph.specs.RowChanges.{with_field_of}
 use Rattle.lf_graph.specs.StoredRows.{field_value_at, fields_by}
 use Rattle.lf_poolstore.specs.RowLists.{numbers}
 use Rattle.lf_poolstore.specs.Units.{IsUnit, UnitView, places_in, rows_in}
-use Rattle.lf_poolstore.proofs.CellFields.{no_number, value_found, value_in}
+use Rattle.lf_poolstore.proofs.CellFields.{no_number, put_absent, value_found, value_in}
 use Rattle.lf_poolstore.proofs.SeenUnits.{is_there, row_seen, same_row, standing}
 use Rattle.lf_poolstore.proofs.WrittenUnits.{same_entry, written_places, written_rows, written_unit}
 use Rattle.lf_poolstore.proofs.unit.Unit.set_field.Goals as goal
@@ -46,9 +46,10 @@ pub returns-then-cell-clause-rows : goal.returns-then-cell-clause-rows
 returns-then-cell-clause-rows c o here =
     let s = standing c.self.inside.owner c.self.inside.rows c.self.inside.cells c.args.self.now (record { unit = c.self.invariant; is = c.self.view_is }) c.args.at o here in
     let es = c.self.inside.rows.entries in
+    let m = c.self.inside.cells in
     ap (rows_in c.self.inside.owner c.added-now.new.cells) c.set.ensures.entries
     ∙ written_rows c.self.inside.cells c.added-now.new.cells es c.self.invariant c.args.at c.row-row.result c.added-now.result c.row-row.ensures.row c.added-now.ensures.row _ c.added-now.ensures.written
-    c.self.inside.owner o (λ fs. put_field fs c.args.key c.args.v) refl es s.agree c.self.invariant.numbers_differ (λ x r f. f)
+    c.self.inside.owner o (λ fs. put_field fs c.args.key c.args.v) (sym (put_absent m c.args.key c.args.v (numbers m c.row-row.result.fields) (sym c.cell_of-cell.ensures ∙ no_number c.cell_of-cell.result c.if-cell.true))) es s.agree c.self.invariant.numbers_differ (λ x r f. f)
     ∙ ap (λ (v : UnitView). with_field_of v.rows o c.args.key c.args.v) c.self.view_is
 
 pub returns-then-cell-clause-places : goal.returns-then-cell-clause-places
