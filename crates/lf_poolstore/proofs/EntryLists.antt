@@ -21,7 +21,7 @@ use Rattle.lf_graph.specs.RowChanges.{with_new_row, without_row}
 use Rattle.lf_graph.specs.StoredRows.{IsNewName, row_named}
 use Rattle.lf_poolstore.specs.declared.unit_row.UnitRow.{UnitRow}
 use Rattle.lf_poolstore.specs.RowLists.{entry_at, names_in, numbers, numbers_in, without_entry}
-use Rattle.lf_poolstore.specs.Units.{FieldPool, IsUnit, KeepsFields, places_in, rows_in, whole}
+use Rattle.lf_poolstore.specs.Units.{Apart, FieldPool, IsUnit, KeepsFields, places_in, rows_in, whole}
 use Rattle.lf_poolstore.proofs.Entries.{Agree, Entries}
 use Rattle.lf_poolstore.proofs.RowLists.{entry, walk_none}
 use Rattle.lf_poolstore.proofs.SeenUnits.{found_later, kept_fields_by, kept_row_by, same_row}
@@ -59,7 +59,7 @@ without_found at (e ∷ es) x = go (without_found at es x) (eqb at e.0) refl (eq
       ap (λ b. cond b (Some e.1) (entry_at (without_entry at es) x)) m ∙ sym (ap (λ b. cond b None (Some e.1)) (ap (eqb at) ((Decides-eqb x e.0).0 m) ∙ k))
   go ih false k false m = ap (λ b. cond b (Some e.1) (entry_at (without_entry at es) x)) m ∙ ih
 
-lacks_without : {N : Type 0} (same : N → N → Bool) (f : ℕ × UnitRow → N) (x : N) (at : ℕ) (es : Entries) → Lacks same x (map f es) → Lacks same x (map f (without_entry at es))
+pub lacks_without : {N : Type 0} (same : N → N → Bool) (f : ℕ × UnitRow → N) (x : N) (at : ℕ) (es : Entries) → Lacks same x (map f es) → Lacks same x (map f (without_entry at es))
 lacks_without same f x at [] l = tt
 lacks_without same f x at (e ∷ es) l = elim (eqb at e.0) as (λ b. Lacks same x (map f (cond (not b) (e ∷ without_entry at es) (without_entry at es)))) [
   | true ↦ lacks_without same f x at es l.1
@@ -134,6 +134,62 @@ none_lacks (e ∷ es) at h = elim (eqb at e.0) as (λ b. cond b (Some e.1) (entr
   | false ↦ λ k. (refl, none_lacks es at k)
 ] h
 
+-- the row comes last, with its fields
+module _ (cells : FieldPool) (at : ℕ) (row : UnitRow) where
+  place_last : (us : Entries) (q : ObjId) → Lacks same_name row.name (names_in us) → lookup (same_name q) (places_in (us ++ entry at row ∷ [])) ≡ cond (same_name row.name q) (Some at) (lookup (same_name q) (places_in us))
+  place_last [] q l = ap (λ b. cond b (Some at) None) (same_name_flips q row.name)
+  place_last (u ∷ us) q l = elim (same_name q (u.1).name) as (λ b. same_name q (u.1).name ≡ b
+      → cond b (Some u.0) (lookup (same_name q) (places_in (us ++ entry at row ∷ []))) ≡ cond (same_name row.name q) (Some at) (cond b (Some u.0) (lookup (same_name q) (places_in us)))) [
+        | true ↦ λ k. sym (ap (λ b. cond b (Some at) (Some u.0)) (ap (same_name row.name) (same_name_is q (u.1).name k) ∙ l.0))
+        | false ↦ λ _. place_last us q l.1
+      ] refl
+
+  -- what is found then was found before, or is the row
+  found_more : (us : Entries) (x : ℕ) (r : UnitRow) → entry_at (us ++ entry at row ∷ []) x ≡ Some r → (entry_at us x ≡ Some r) ⊎ ((x ≡ at) × (r ≡ row))
+  found_more [] x r f = elim (eqb x at) as (λ b. eqb x at ≡ b → cond b (Some row) None ≡ Some r → (entry_at [] x ≡ Some r) ⊎ ((x ≡ at) × (r ≡ row))) [
+    | true ↦ λ t k. inr ((Decides-eqb x at).0 t, sym (same_row k))
+    | false ↦ λ _ k. absurd (cc k)
+  ] refl f
+  found_more (u ∷ us) x r f = elim (eqb x u.0) as (λ b. cond b (Some u.1) (entry_at (us ++ entry at row ∷ []) x) ≡ Some r → (cond b (Some u.1) (entry_at us x) ≡ Some r) ⊎ ((x ≡ at) × (r ≡ row))) [
+    | true ↦ λ k. inl k
+    | false ↦ λ k. found_more us x r k
+  ] f
+
+  module _ (es : Entries) (unit : IsUnit es cells) (fresh : entry_at es at ≡ None) (lacks : Lacks same_name row.name (names_in es)) (keeps : KeepsFields cells row)
+      (apart : (x : ℕ) → (s : UnitRow) → entry_at es x ≡ Some s → Apart row s) where
+    pub more_places : (q : ObjId) → lookup (same_name q) (places_in (es ++ entry at row ∷ [])) ≡ cond (same_name row.name q) (Some at) (lookup (same_name q) (places_in es))
+    more_places q = place_last es q lacks
+
+    pub more_unit : IsUnit (es ++ entry at row ∷ []) cells
+    more_unit =
+        record {
+          numbers_differ = subst (NodesDiffer eqb) (sym (map-append (λ (e : ℕ × UnitRow). e.0) es (entry at row ∷ []))) (differ_push eqb numbers_flip (numbers_in es) at unit.numbers_differ (none_lacks es at fresh));
+          names_differ = subst (NodesDiffer same_name) (sym (map-append (λ (e : ℕ × UnitRow). (e.1).name) es (entry at row ∷ []))) (differ_push same_name names_flip (names_in es) row.name unit.names_differ lacks);
+          fields = λ x r f. in_fields r x (found_more es x r f);
+          apart = λ a b r s f g n c h k. in_apart a b r s n c h k (found_more es a r f) (found_more es b s g);
+        }
+      where
+        in_fields : (r : UnitRow) (x : ℕ) → (entry_at es x ≡ Some r) ⊎ ((x ≡ at) × (r ≡ row)) → KeepsFields cells r
+        in_fields r x (inl f) = unit.fields x r f
+        in_fields r x (inr e) = subst (KeepsFields cells) (sym e.1) keeps
+
+        in_apart : (a b : ℕ) (r s : UnitRow) → eqb a b ≡ false → (c : ℕ) → node r.fields ≡ Some c → node s.fields ≡ Some c → (entry_at es a ≡ Some r) ⊎ ((a ≡ at) × (r ≡ row)) → (entry_at es b ≡ Some s) ⊎ ((b ≡ at) × (s ≡ row)) → ⊥
+        in_apart a b r s n c h k (inl f) (inl g) = unit.apart a b r s f g n c h k
+        in_apart a b r s n c h k (inr e) (inl g) = apart b s g c (ap (λ (t : UnitRow). node t.fields) (sym e.1) ∙ h) k
+        in_apart a b r s n c h k (inl f) (inr e) = apart a r f c (ap (λ (t : UnitRow). node t.fields) (sym e.1) ∙ k) h
+        in_apart a b r s n c h k (inr e) (inr g) = let t : eqb a b ≡ true = (Decides-eqb a b).1 (e.0 ∙ sym g.0) in absurd (cc (t, n))
+
+module _ (cells : FieldPool) where
+  pub no_numbers : numbers cells NONE ≡ []
+  no_numbers = walk_none (length cells.cells) (link_at cells.cells)
+
+  -- a row without fields keeps none
+  pub bare_row : (o : ObjId) (refs : ℕ) → KeepsFields cells (record { name = o; refs = refs; fields = NONE; width = 0 })
+  bare_row o refs = record {
+    chain = record { chain = subst (IsChain (link_at cells.cells)) (sym no_numbers) (record { links = tt; differ = tt }); begins = ap (λ ns. head_or ns None) no_numbers; live = λ c e. cc e };
+    count = ap length no_numbers;
+  }
+
 module _ (owner : Owner) (cells : FieldPool) where
   pub new_lacks : (es : Entries) (o : ObjId) → IsNewName (rows_in owner cells es) o → Lacks same_name o (names_in es)
   new_lacks [] o h = tt
@@ -141,9 +197,6 @@ module _ (owner : Owner) (cells : FieldPool) where
     | true ↦ λ _ k. absurd (cc k)
     | false ↦ λ n k. (same_name_flips o (e.1).name ∙ n, new_lacks es o k)
   ] refl h
-
-  pub no_numbers : numbers cells NONE ≡ []
-  no_numbers = walk_none (length cells.cells) (link_at cells.cells)
 
   module _ (es : Entries) (unit : IsUnit es cells) (o : ObjId) (at : ℕ) (row : UnitRow) (is : row ≡ record { name = o; refs = 0; fields = NONE; width = 0 })
       (fresh : entry_at es at ≡ None) (new : IsNewName (rows_in owner cells es) o) where
@@ -153,59 +206,22 @@ module _ (owner : Owner) (cells : FieldPool) where
     pub push_rows : rows_in owner cells (es ++ entry at row ∷ []) ≡ with_new_row (rows_in owner cells es) o owner
     push_rows = map-append (λ (e : ℕ × UnitRow). whole owner cells e.1) es (entry at row ∷ [])
         ∙ ap (λ (r : UnitRow). rows_in owner cells es ++ whole owner cells r ∷ []) is
-        ∙ ap (λ ns. rows_in owner cells es ++ record { row = record { name = o; owner = owner; fields = filter_map (item_at cells.cells) ns }; refs = 0 } ∷ []) no_numbers
-
-    no_place : (us : Entries) → Lacks same_name o (names_in us) → lookup (same_name o) (places_in us) ≡ None
-    no_place [] l = refl
-    no_place (u ∷ us) l = ap (λ b. cond b (Some u.0) (lookup (same_name o) (places_in us))) l.0 ∙ no_place us l.1
-
-    after_all : (us : Entries) (q : ObjId) → Lacks same_name o (names_in us) → lookup (same_name q) (places_in (us ++ entry at row ∷ [])) ≡ cond (same_name o q) (Some at) (lookup (same_name q) (places_in us))
-    after_all [] q l = ap (λ n. cond (same_name q n) (Some at) None) name_is ∙ ap (λ b. cond b (Some at) None) (same_name_flips q o)
-    after_all (u ∷ us) q l = elim (same_name q (u.1).name) as (λ b. same_name q (u.1).name ≡ b
-        → cond b (Some u.0) (lookup (same_name q) (places_in (us ++ entry at row ∷ []))) ≡ cond (same_name o q) (Some at) (cond b (Some u.0) (lookup (same_name q) (places_in us)))) [
-          | true ↦ λ k. sym (ap (λ b. cond b (Some at) (Some u.0)) (ap (same_name o) (same_name_is q (u.1).name k) ∙ l.0))
-          | false ↦ λ _. after_all us q l.1
-        ] refl
-
-    pub push_places : (q : ObjId) → lookup (same_name q) (places_in (es ++ entry at row ∷ [])) ≡ cond (same_name o q) (Some at) (lookup (same_name q) (places_in es))
-    push_places q = after_all es q (new_lacks es o new)
-
-    found_more : (us : Entries) (x : ℕ) (r : UnitRow) → entry_at (us ++ entry at row ∷ []) x ≡ Some r → (entry_at us x ≡ Some r) ⊎ (r ≡ row)
-    found_more [] x r f = elim (eqb x at) as (λ b. cond b (Some row) None ≡ Some r → (entry_at [] x ≡ Some r) ⊎ (r ≡ row)) [
-      | true ↦ λ k. inr (sym (same_row k))
-      | false ↦ λ k. absurd (cc k)
-    ] f
-    found_more (u ∷ us) x r f = elim (eqb x u.0) as (λ b. cond b (Some u.1) (entry_at (us ++ entry at row ∷ []) x) ≡ Some r → (cond b (Some u.1) (entry_at us x) ≡ Some r) ⊎ (r ≡ row)) [
-      | true ↦ λ k. inl k
-      | false ↦ λ k. found_more us x r k
-    ] f
+        ∙ ap (λ ns. rows_in owner cells es ++ record { row = record { name = o; owner = owner; fields = filter_map (item_at cells.cells) ns }; refs = 0 } ∷ []) (no_numbers cells)
 
     bare : node row.fields ≡ None
     bare = ap (λ (r : UnitRow). node r.fields) is
 
-    bare_row : KeepsFields cells row
-    bare_row =
-        let none : numbers cells row.fields ≡ [] = ap (λ (r : UnitRow). numbers cells r.fields) is ∙ no_numbers in
-        record {
-          chain = record { chain = subst (IsChain (link_at cells.cells)) (sym none) (record { links = tt; differ = tt }); begins = ap (λ ns. head_or ns None) none ∙ sym bare; live = λ c e. cc (bare, e) };
-          count = ap length none ∙ sym (ap (λ (r : UnitRow). r.width) is);
-        }
+    bare_keeps : KeepsFields cells row
+    bare_keeps = subst (KeepsFields cells) (sym is) (bare_row cells o 0)
+
+    bare_apart : (x : ℕ) → (s : UnitRow) → entry_at es x ≡ Some s → Apart row s
+    bare_apart x s f c e k = cc (e, bare)
+
+    lacked_name : Lacks same_name row.name (names_in es)
+    lacked_name = subst (λ n. Lacks same_name n (names_in es)) (sym name_is) (new_lacks es o new)
+
+    pub push_places : (q : ObjId) → lookup (same_name q) (places_in (es ++ entry at row ∷ [])) ≡ cond (same_name o q) (Some at) (lookup (same_name q) (places_in es))
+    push_places q = more_places cells at row es unit fresh lacked_name bare_keeps bare_apart q ∙ ap (λ n. cond (same_name n q) (Some at) (lookup (same_name q) (places_in es))) name_is
 
     pub push_unit : IsUnit (es ++ entry at row ∷ []) cells
-    push_unit =
-        record {
-          numbers_differ = subst (NodesDiffer eqb) (sym (map-append (λ (e : ℕ × UnitRow). e.0) es (entry at row ∷ []))) (differ_push eqb numbers_flip (numbers_in es) at unit.numbers_differ (none_lacks es at fresh));
-          names_differ = subst (NodesDiffer same_name) (sym (map-append (λ (e : ℕ × UnitRow). (e.1).name) es (entry at row ∷ [])))
-              (differ_push same_name names_flip (names_in es) row.name unit.names_differ (subst (λ n. Lacks same_name n (names_in es)) (sym name_is) (new_lacks es o new)));
-          fields = λ x r f. in_fields r x (found_more es x r f);
-          apart = λ a b r s f g n c h k. in_apart a b r s n c h k (found_more es a r f) (found_more es b s g);
-        }
-      where
-        in_fields : (r : UnitRow) (x : ℕ) → (entry_at es x ≡ Some r) ⊎ (r ≡ row) → KeepsFields cells r
-        in_fields r x (inl f) = unit.fields x r f
-        in_fields r x (inr e) = subst (KeepsFields cells) (sym e) bare_row
-
-        in_apart : (a b : ℕ) (r s : UnitRow) → eqb a b ≡ false → (c : ℕ) → node r.fields ≡ Some c → node s.fields ≡ Some c → (entry_at es a ≡ Some r) ⊎ (r ≡ row) → (entry_at es b ≡ Some s) ⊎ (s ≡ row) → ⊥
-        in_apart a b r s n c h k (inl f) (inl g) = unit.apart a b r s f g n c h k
-        in_apart a b r s n c h k (inr e) g = let w : node row.fields ≡ Some c = ap (λ (t : UnitRow). node t.fields) (sym e) ∙ h in absurd (cc (w, bare))
-        in_apart a b r s n c h k (inl f) (inr e) = let w : node row.fields ≡ Some c = ap (λ (t : UnitRow). node t.fields) (sym e) ∙ k in absurd (cc (w, bare))
+    push_unit = more_unit cells at row es unit fresh lacked_name bare_keeps bare_apart

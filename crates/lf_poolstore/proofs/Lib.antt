@@ -4,5 +4,6 @@ pub mod FieldPlaces
 pub mod Entries
 pub mod SeenUnits
 pub mod EntryLists
+pub mod MovedRows
 pub mod Written
 pub mod WrittenUnits

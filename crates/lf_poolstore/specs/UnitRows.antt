@@ -11,3 +11,7 @@ is_live r = ltb 0 r.width || eqb r.fields NONE
 abbrev pub row_or : Option UnitRow → UnitRow
 row_or None = record { name = record { birth = 0; seq = 0 }; refs = 0; fields = NONE; width = 0 }
 row_or (Some r) = r
+
+-- a row without its fields
+abbrev pub bare : UnitRow → UnitRow
+bare r = record { name = r.name; refs = r.refs; fields = NONE; width = 0 }

@@ -1,6 +1,7 @@
 mod changes;
 mod field_walks;
 mod fields;
+mod moves;
 mod reads;
 
 use crate::row_list::RowList;
