@@ -5,5 +5,6 @@ pub mod Entries
 pub mod SeenUnits
 pub mod EntryLists
 pub mod MovedRows
+pub mod WholeUnits
 pub mod Written
 pub mod WrittenUnits

@@ -1,15 +1,15 @@
 -- A unit: the rows of one owner, in order, and where each stands.
-use Rattle.std.specs.Prelude.{List, Option, Some, eqb, false, filter_map, length, map, min, ℕ, ◌≡◌, ◌≢◌, None}
+use Rattle.std.specs.Prelude.{List, None, Option, Some, [], cond, eqb, false, filter_map, is_some, length, map, min, ℕ, ◌≡◌, ◌≢◌}
 use Rattle.std.specs.Map.{lookup}
 use Rattle.lf_base.specs.declared.ids.ObjId.{ObjId}
 use Rattle.lf_base.specs.declared.values.Key.{Key}
 use Rattle.lf_base.specs.declared.values.Owner.{Owner}
 use Rattle.lf_base.specs.declared.values.Value.{Value}
 use Rattle.lf_base.specs.Links.{NodesDiffer}
-use Rattle.lf_base.specs.Names.{same_name}
+use Rattle.lf_base.specs.Names.{same_name, same_owner}
 use Rattle.lf_pool.specs.Cells.{item_at, node}
 use Rattle.lf_pool.specs.Pools.{IsLeft, PoolView}
-use Rattle.lf_graph.specs.StoredRows.{CountedRow}
+use Rattle.lf_graph.specs.StoredRows.{CountedRow, row_named, rows_of}
 use Rattle.lf_poolstore.specs.declared.unit_row.UnitRow.{UnitRow}
 use Rattle.lf_poolstore.specs.RowLists.{ListView, entry_at, names_in, numbers, numbers_in}
 
@@ -88,3 +88,8 @@ pub record IsUnit (es : List (ℕ × UnitRow)) (cells : FieldPool) : Type 0 wher
   pub names_differ : NodesDiffer same_name (names_in es)
   pub fields : (at : ℕ) → (r : UnitRow) → entry_at es at ≡ Some r → KeepsFields cells r
   pub apart : (a b : ℕ) → (r s : UnitRow) → entry_at es a ≡ Some r → entry_at es b ≡ Some s → eqb a b ≡ false → (c : ℕ) → node r.fields ≡ Some c → node s.fields ≢ Some c
+
+-- all rows of a unit have its owner, and a name has a number exactly where it has a row
+pub record IsWhole (u : UnitView) : Type 0 where
+  pub under : (w : Owner) → rows_of w u.rows ≡ cond (same_owner u.owner w) u.rows []
+  pub placed : (o : ObjId) → is_some (row_named u.rows o) ≡ is_some (place_in u o)

@@ -7,7 +7,7 @@ ghost use Rattle.lf_graph.specs.RowChanges.{lowered, raised, with_refs, with_new
 ghost use Rattle.lf_graph.specs.StoredRows.{CountedRow, IsNewName, refs_at};
 ghost use Rattle.lf_pool.specs.Cells.{SameItems, node};
 ghost use Rattle.lf_pool.specs.Pools.{Chain, IsLeft};
-ghost use Rattle.lf_poolstore.specs.Units.{StandsAt, place_in};
+ghost use Rattle.lf_poolstore.specs.Units.{IsWhole, StandsAt, place_in};
 
 use crate::unit::Unit;
 use crate::unit_row::UnitRow;
@@ -19,6 +19,7 @@ impl Unit {
     /// no less room.
     pub fn reserve(&mut self, cells: usize) -> Result<(), OutOfMemory>
         ensures owner { self.new.owner ≡ self.old.owner }
+        ensures whole { IsWhole self.new }
         ensures rows { self.new.rows ≡ self.old.rows }
         ensures places { self.new.places ≡ self.old.places }
         ensures enough { OnOk result (cells ≤ self.new.spare) }
@@ -33,6 +34,7 @@ impl Unit {
     pub fn add_ref(&mut self, at: u32)
         requires there { (o : Name) × StandsAt self.old at o × (refs_at self.old.rows o < 2 ^ 64 - 1) }
         ensures owner { self.new.owner ≡ self.old.owner }
+        ensures whole { IsWhole self.new }
         ensures rows { (o : Name) → StandsAt self.old at o → self.new.rows ≡ raised self.old.rows o }
         ensures places { self.new.places ≡ self.old.places }
         ensures room { self.new.spare ≡ self.old.spare }
@@ -47,6 +49,7 @@ impl Unit {
     pub fn sub_ref(&mut self, at: u32)
         requires there { (o : Name) × StandsAt self.old at o × (0 < refs_at self.old.rows o) }
         ensures owner { self.new.owner ≡ self.old.owner }
+        ensures whole { IsWhole self.new }
         ensures rows { (o : Name) → StandsAt self.old at o → self.new.rows ≡ lowered self.old.rows o }
         ensures places { self.new.places ≡ self.old.places }
         ensures room { self.new.spare ≡ self.old.spare }
@@ -63,6 +66,7 @@ impl Unit {
         requires new { IsNewName self.old.rows o }
         requires room { 1 ≤ self.old.spare }
         ensures owner { self.new.owner ≡ self.old.owner }
+        ensures whole { IsWhole self.new }
         ensures rows { self.new.rows ≡ with_new_row self.old.rows o self.old.owner }
         ensures places { (q : Name) → place_in self.new q ≡ (if same_name o q then Some result else place_in self.old q) }
         ensures room { self.old.spare ≤ self.new.spare + 1 }
@@ -75,6 +79,7 @@ impl Unit {
     pub fn remove(&mut self, at: u32)
         requires there { (o : Name) × StandsAt self.old at o }
         ensures owner { self.new.owner ≡ self.old.owner }
+        ensures whole { IsWhole self.new }
         ensures rows { (o : Name) → StandsAt self.old at o → self.new.rows ≡ without_row self.old.rows o }
         ensures places { (o : Name) → StandsAt self.old at o
             → (q : Name) → place_in self.new q ≡ (if same_name o q then None else place_in self.old q) }

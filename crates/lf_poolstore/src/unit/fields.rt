@@ -10,7 +10,7 @@ ghost use Rattle.lf_pool.specs.Pools.{Chain, IsLeft};
 ghost use Rattle.lf_graph.specs.Room.{room_for_field};
 ghost use Rattle.lf_graph.specs.RowChanges.{with_field_of, without_field_of};
 ghost use Rattle.lf_graph.specs.StoredRows.{field_value_at};
-ghost use Rattle.lf_poolstore.specs.Units.{KeepsFields, KeepsRow, StandsAt, Writes, fields_of, items_in};
+ghost use Rattle.lf_poolstore.specs.Units.{IsWhole, KeepsFields, KeepsRow, StandsAt, Writes, fields_of, items_in};
 ghost use Rattle.lf_poolstore.specs.RowLists.{numbers};
 ghost use Rattle.lf_base.specs.TakeResult.{drop_field, field_at};
 
@@ -131,6 +131,7 @@ impl Unit {
     pub fn set_field(&mut self, at: u32, key: Key, v: Value) -> Option<Value>
         requires there { (o : Name) × StandsAt self.old at o × (room_for_field self.old.rows o key ≤ self.old.spare) }
         ensures owner { self.new.owner ≡ self.old.owner }
+        ensures whole { IsWhole self.new }
         ensures value { (o : Name) → StandsAt self.old at o → result ≡ field_value_at self.old.rows o key }
         ensures rows { (o : Name) → StandsAt self.old at o → self.new.rows ≡ with_field_of self.old.rows o key v }
         ensures places { self.new.places ≡ self.old.places }
@@ -151,6 +152,7 @@ impl Unit {
     pub fn take_field(&mut self, at: u32, key: Key) -> Option<Value>
         requires there { (o : Name) × StandsAt self.old at o }
         ensures owner { self.new.owner ≡ self.old.owner }
+        ensures whole { IsWhole self.new }
         ensures value { (o : Name) → StandsAt self.old at o → result ≡ field_value_at self.old.rows o key }
         ensures rows { (o : Name) → StandsAt self.old at o → self.new.rows ≡ without_field_of self.old.rows o key }
         ensures places { self.new.places ≡ self.old.places }

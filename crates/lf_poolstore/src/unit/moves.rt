@@ -7,7 +7,7 @@ ghost use Rattle.lf_graph.specs.Room.{room_for_row};
 ghost use Rattle.lf_graph.specs.RowChanges.{moved_last, moved_under, without_row};
 ghost use Rattle.lf_graph.specs.StoredRows.{IsNewName, row_named};
 ghost use Rattle.lf_poolstore.specs.UnitRows.{bare};
-ghost use Rattle.lf_poolstore.specs.Units.{KeepsFields, KeepsRow, StandsAt, Writes, fields_of, place_in};
+ghost use Rattle.lf_poolstore.specs.Units.{IsWhole, KeepsFields, KeepsRow, StandsAt, Writes, fields_of, place_in};
 
 use crate::unit::Unit;
 use crate::unit::fields::added;
@@ -37,6 +37,7 @@ impl Unit {
     pub fn move_last(&mut self, at: u32)
         requires there { (o : Name) × StandsAt self.old at o }
         ensures owner { self.new.owner ≡ self.old.owner }
+        ensures whole { IsWhole self.new }
         ensures rows { (o : Name) → StandsAt self.old at o → self.new.rows ≡ moved_last self.old.rows o self.old.owner }
         ensures places { (q : Name) → place_in self.new q ≡ place_in self.old q }
         ensures room { self.new.spare ≡ self.old.spare }
@@ -49,11 +50,13 @@ impl Unit {
     pub fn take_from(&mut self, other: &mut Unit, at: u32) -> u32
         requires there { (o : Name) × StandsAt other.old at o × IsNewName self.old.rows o × (room_for_row other.old.rows o ≤ self.old.spare) }
         ensures owner { self.new.owner ≡ self.old.owner }
+        ensures whole { IsWhole self.new }
         ensures rows { (o : Name) → StandsAt other.old at o → self.new.rows ≡ self.old.rows ++ moved_under self.old.owner (row_named other.old.rows o) }
         ensures places { (o : Name) → StandsAt other.old at o
             → (q : Name) → place_in self.new q ≡ (if same_name o q then Some result else place_in self.old q) }
         ensures room { (o : Name) → StandsAt other.old at o → self.old.spare ≤ self.new.spare + room_for_row other.old.rows o }
         ensures other_owner { other.new.owner ≡ other.old.owner }
+        ensures other_whole { IsWhole other.new }
         ensures other_rows { (o : Name) → StandsAt other.old at o → other.new.rows ≡ without_row other.old.rows o }
         ensures other_places { (o : Name) → StandsAt other.old at o
             → (q : Name) → place_in other.new q ≡ (if same_name o q then None else place_in other.old q) }

@@ -3,7 +3,7 @@
 ghost use Rattle.std.specs.Prelude.{◌≡◌, ◌↔◌, [], length, IsTrue};
 ghost use Rattle.lf_base.specs.declared.ids.ObjId.{ObjId as Name};
 ghost use Rattle.lf_graph.specs.StoredRows.{fields_at, first_name, name_after, refs_at};
-ghost use Rattle.lf_poolstore.specs.Units.{StandsAt};
+ghost use Rattle.lf_poolstore.specs.Units.{IsWhole, StandsAt};
 
 use crate::row_list::RowList;
 use crate::unit::Unit;
@@ -15,6 +15,7 @@ impl Unit {
     /// A unit without rows. It takes no memory.
     pub fn new(alloc: Global, owner: Owner) -> Unit
         ensures owner { result.owner ≡ owner }
+        ensures whole { IsWhole result }
         ensures rows { result.rows ≡ [] }
         ensures places { result.places ≡ [] }
     {
@@ -28,7 +29,8 @@ impl Unit {
     /// The owner of all its rows.
     #[inline(always)]
     pub fn owner(&self) -> Owner
-        ensures { result ≡ self.now.owner }
+        ensures owner { result ≡ self.now.owner }
+        ensures whole { IsWhole self.now }
     {
         self.owner
     }

@@ -3,6 +3,7 @@ use Rattle.lf_graph.specs.RowChanges.{changed, with_refs}
 use Rattle.lf_graph.specs.StoredRows.{CountedRow}
 use Rattle.lf_poolstore.specs.Units.{IsUnit, UnitView, places_in, rows_in}
 use Rattle.lf_poolstore.proofs.SeenUnits.{is_there, refs_seen, set_places, set_rows, set_unit, standing}
+use Rattle.lf_poolstore.proofs.WholeUnits.{whole_view}
 use Rattle.lf_poolstore.proofs.unit.Unit.add_ref.Goals as goal
 
 pub row-row-requires : goal.row-row-requires
@@ -32,3 +33,6 @@ returns-clause-places c =
     let r = c.row-row.result in
     ap places_in c.set.ensures.entries ∙ set_places c.self.inside.rows.entries c.self.inside.cells c.self.invariant c.args.at r (record r { refs = r.refs + 1 }) c.row-row.ensures.row refl
     ∙ ap (λ (v : UnitView). v.places) c.self.view_is
+
+pub returns-clause-whole : goal.returns-clause-whole
+returns-clause-whole c = whole_view c.self.inside.owner c.set.new.self c.self.inside.cells

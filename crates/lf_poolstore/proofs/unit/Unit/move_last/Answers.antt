@@ -5,6 +5,7 @@ use Rattle.lf_graph.specs.RowChanges.{moved_last}
 use Rattle.lf_poolstore.specs.Units.{IsUnit, UnitView, place_in, places_in, rows_in}
 use Rattle.lf_poolstore.proofs.MovedRows.{moved_places, moved_rows, moved_unit}
 use Rattle.lf_poolstore.proofs.SeenUnits.{is_there, standing}
+use Rattle.lf_poolstore.proofs.WholeUnits.{whole_view}
 use Rattle.lf_poolstore.proofs.unit.Unit.move_last.Goals as goal
 
 pub move_last-requires : goal.move_last-requires
@@ -29,3 +30,6 @@ returns-clause-places c q =
     ap (λ es. lookup (same_name q) (places_in es)) c.move_last.ensures.entries
     ∙ moved_places c.self.inside.rows.entries c.self.inside.cells c.self.invariant c.args.at s.row s.found o s.agree s.named (ap (λ (v : UnitView). place_in v o) c.self.view_is ∙ c.requires.there.1) q
     ∙ ap (λ (v : UnitView). place_in v q) c.self.view_is
+
+pub returns-clause-whole : goal.returns-clause-whole
+returns-clause-whole c = whole_view c.self.inside.owner c.move_last.new.self c.self.inside.cells

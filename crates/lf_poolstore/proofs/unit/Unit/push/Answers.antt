@@ -6,6 +6,7 @@ use Rattle.std.specs.Map.{lookup}
 use Rattle.std.proofs.Common.{cond, Some}
 use Rattle.lf_poolstore.specs.Units.{IsUnit, UnitView, place_in, places_in, rows_in}
 use Rattle.lf_poolstore.proofs.EntryLists.{push_places, push_rows, push_unit}
+use Rattle.lf_poolstore.proofs.WholeUnits.{whole_view}
 use Rattle.lf_poolstore.proofs.unit.Unit.push.Goals as goal
 
 pub invariant_of-self : goal.invariant_of-self
@@ -27,3 +28,6 @@ returns-clause-places c q =
     ∙ push_places c.self.inside.owner c.self.inside.cells c.self.inside.rows.entries c.self.invariant c.args.o c.push.result c.new.result c.new.ensures.row c.push.ensures.new
     (subst (λ (v : UnitView). IsNewName v.rows c.args.o) (sym c.self.view_is) c.requires.new) q
     ∙ ap (λ (v : UnitView). cond (same_name c.args.o q) (Some c.push.result) (place_in v q)) c.self.view_is
+
+pub returns-clause-whole : goal.returns-clause-whole
+returns-clause-whole c = whole_view c.self.inside.owner c.push.new.self c.self.inside.cells

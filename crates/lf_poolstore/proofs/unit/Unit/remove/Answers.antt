@@ -6,6 +6,7 @@ use Rattle.lf_poolstore.specs.RowLists.{numbers}
 use Rattle.lf_poolstore.specs.Units.{IsUnit, UnitView, place_in, places_in, rows_in}
 use Rattle.lf_poolstore.proofs.EntryLists.{left_rows, left_unit, without_places}
 use Rattle.lf_poolstore.proofs.SeenUnits.{is_there, standing}
+use Rattle.lf_poolstore.proofs.WholeUnits.{whole_view}
 use Rattle.lf_poolstore.proofs.unit.Unit.remove.Goals as goal
 
 pub row-row-requires : goal.row-row-requires
@@ -36,3 +37,6 @@ returns-clause-places c o here q =
     ap (λ es. lookup (same_name q) (places_in es)) c.remove.ensures.entries
     ∙ without_places c.args.at o c.self.inside.rows.entries s.agree q
     ∙ ap (λ (v : UnitView). cond (same_name o q) None (place_in v q)) c.self.view_is
+
+pub returns-clause-whole : goal.returns-clause-whole
+returns-clause-whole c = whole_view c.self.inside.owner c.remove.new.self c.give_fields.new.cells

@@ -1,6 +1,7 @@
 use Rattle.std.proofs.Common.{ap, subst, sym, ◌∙◌}
 use Rattle.lf_poolstore.specs.Units.{IsUnit, UnitView, rows_in}
 use Rattle.lf_poolstore.proofs.SeenUnits.{kept_rows, kept_unit}
+use Rattle.lf_poolstore.proofs.WholeUnits.{whole_view}
 use Rattle.lf_poolstore.proofs.unit.Unit.reserve.Goals as goal
 
 pub invariant_of-self-2 : goal.invariant_of-self-2
@@ -13,3 +14,9 @@ returns-clause-rows c =
     ap (rows_in c.self.inside.owner c.reserve-2.new.self) c.reserve.ensures.entries
     ∙ kept_rows c.self.inside.cells c.reserve-2.new.self c.reserve-2.ensures.items c.reserve-2.ensures.chains c.self.inside.owner c.self.inside.rows.entries u.numbers_differ u.fields
     ∙ ap (λ (v : UnitView). v.rows) c.self.view_is
+
+pub returns-in_err-reserve-clause-whole : goal.returns-in_err-reserve-clause-whole
+returns-in_err-reserve-clause-whole c = whole_view c.self.inside.owner c.reserve.new.self c.self.inside.cells
+
+pub returns-clause-whole : goal.returns-clause-whole
+returns-clause-whole c = whole_view c.self.inside.owner c.reserve.new.self c.reserve-2.new.self

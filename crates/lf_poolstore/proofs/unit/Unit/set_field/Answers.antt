@@ -8,6 +8,7 @@ use Rattle.lf_poolstore.specs.Units.{IsUnit, UnitView, places_in, rows_in}
 use Rattle.lf_poolstore.proofs.CellFields.{no_number, put_absent, value_found, value_in}
 use Rattle.lf_poolstore.proofs.SeenUnits.{is_there, row_seen, same_row, standing}
 use Rattle.lf_poolstore.proofs.WrittenUnits.{same_entry, written_places, written_rows, written_unit}
+use Rattle.lf_poolstore.proofs.WholeUnits.{whole_view}
 use Rattle.lf_poolstore.proofs.unit.Unit.set_field.Goals as goal
 
 pub row-row-requires : goal.row-row-requires
@@ -94,3 +95,9 @@ returns-clause-rows c o here =
     ∙ written_rows c.self.inside.cells c.replaced.new.cells es c.self.invariant c.args.at r r c.row-row.ensures.row (record { name = refl; refs = refl }) _ c.replaced.ensures.written
     c.self.inside.owner o (λ fs. put_field fs c.args.key c.args.v) refl es s.agree c.self.invariant.numbers_differ (λ x t f. f)
     ∙ ap (λ (v : UnitView). with_field_of v.rows o c.args.key c.args.v) c.self.view_is
+
+pub returns-then-cell-clause-whole : goal.returns-then-cell-clause-whole
+returns-then-cell-clause-whole c = whole_view c.self.inside.owner c.set.new.self c.added-now.new.cells
+
+pub returns-clause-whole : goal.returns-clause-whole
+returns-clause-whole c = whole_view c.self.inside.owner c.self.inside.rows c.replaced.new.cells

@@ -6,10 +6,11 @@ use Rattle.lf_graph.specs.RowChanges.{without_field_of}
 use Rattle.lf_graph.specs.StoredRows.{fields_by}
 use Rattle.lf_pool.proofs.Beheads.{node_other}
 use Rattle.lf_poolstore.specs.RowLists.{numbers}
-use Rattle.lf_poolstore.specs.Units.{IsUnit, UnitView, places_in, rows_in}
+use Rattle.lf_poolstore.specs.Units.{IsUnit, IsWhole, UnitView, places_in, rows_in}
 use Rattle.lf_poolstore.proofs.CellFields.{drop_absent, found_in_range, no_number, value_found, value_in}
 use Rattle.lf_poolstore.proofs.SeenUnits.{is_there, row_seen, same_row, standing}
 use Rattle.lf_poolstore.proofs.WrittenUnits.{same_entry, written_places, written_rows, written_unit}
+use Rattle.lf_poolstore.proofs.WholeUnits.{whole_view}
 use Rattle.lf_poolstore.proofs.unit.Unit.take_field.Goals as goal
 
 pub row-row-requires : goal.row-row-requires
@@ -74,3 +75,9 @@ returns-then-cell-clause-rows c o here =
     ∙ written_rows m m es u c.args.at r r c.row-row.ensures.row (record { name = refl; refs = refl }) _ (record { keeps = u.fields c.args.at r c.row-row.ensures.row; here = sym none; others = λ t l a. (l, refl, a) })
     c.self.inside.owner o (λ fs. drop_field fs c.args.key) refl es s.agree u.numbers_differ (λ x t f. f)
     ∙ ap (λ (v : UnitView). without_field_of v.rows o c.args.key) c.self.view_is
+
+pub returns-then-cell-clause-whole : goal.returns-then-cell-clause-whole
+returns-then-cell-clause-whole c = subst IsWhole c.self.view_is (whole_view c.self.inside.owner c.self.inside.rows c.self.inside.cells)
+
+pub returns-clause-whole : goal.returns-clause-whole
+returns-clause-whole c = whole_view c.self.inside.owner c.set.new.self c.dropped-now.new.cells

@@ -11,6 +11,7 @@ use Rattle.lf_poolstore.specs.Units.{IsUnit, StandsAt, UnitView, place_in, place
 use Rattle.lf_poolstore.proofs.EntryLists.{new_lacks}
 use Rattle.lf_poolstore.proofs.MovedRows.{taken_places, taken_rows, taken_unit, whole_under}
 use Rattle.lf_poolstore.proofs.SeenUnits.{is_there, name_seen, row_seen, width_seen}
+use Rattle.lf_poolstore.proofs.WholeUnits.{whole_view}
 use Rattle.lf_poolstore.proofs.unit.Unit.take_from.Goals as goal
 
 pub row-requires : goal.row-requires
@@ -64,3 +65,6 @@ returns-clause-room c o here =
     let w = width_seen c.other.inside.owner c.other.inside.rows c.other.inside.cells c.args.other.now (record { unit = c.other.invariant; is = c.other.view_is }) c.args.at o here c.row.result c.row.ensures.row in
     let spare = ap (λ (v : UnitView). v.spare) c.self.view_is in
     omega (arith, w, spare, c.push-number.ensures.room, c.copied-now.ensures.room)
+
+pub returns-clause-whole : goal.returns-clause-whole
+returns-clause-whole c = whole_view c.self.inside.owner c.push-number.new.self c.copied-now.new.cells
