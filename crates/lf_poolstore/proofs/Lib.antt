@@ -1,4 +1,8 @@
 pub mod RowLists
+pub mod PoolRows
+pub mod PoolFacts
+pub mod PoolChanges
+pub mod PoolSteps
 pub mod CellFields
 pub mod FieldPlaces
 pub mod Entries

@@ -3,3 +3,5 @@ pub mod Index
 pub mod UnitRows
 pub mod RowLists
 pub mod Units
+pub mod Pools
+pub mod PoolViews

@@ -10,13 +10,16 @@
 
 mod name_index;
 mod other_names;
+mod owner_units;
 mod place;
+mod pools;
 mod row_list;
 mod unit;
 mod unit_row;
 
 pub use name_index::NameIndex;
 pub use place::Place;
+pub use pools::Pools;
 pub use row_list::RowList;
 pub use unit::Unit;
 pub use unit_row::UnitRow;

@@ -1,0 +1,131 @@
+-- Pools after a change of one unit.
+use Rattle.std.proofs.Common.{◌≡◌, ℕ, Bool, true, false, cond, not, min, ◌+◌, ◌<◌, ◌≤◌, is_some, List, [], ◌∷◌, length, slice_index_or, slice_set, option_map, Option, Some, None, refl, ap, sym, ◌∙◌, subst, zero, suc, arith}
+use Rattle.std.specs.Prelude.{eqb}
+use Rattle.std.proofs.lemmas.Bool.Decides.{Decides-eqb}
+use Rattle.std.proofs.lemmas.List.{get_or-set_other, get_or-set_same}
+use Rattle.lf_base.specs.declared.ids.ObjId.{ObjId}
+use Rattle.lf_base.specs.declared.values.Owner.{Owner}
+use Rattle.lf_graph.specs.RowChanges.{changed, without_row}
+use Rattle.lf_graph.specs.StoredRows.{CountedRow, SameByOwner, is_named, is_under, row_named, rows_of}
+use Rattle.lf_graph.proofs.ListLemmas.{filter_turns}
+use Rattle.lf_graph.proofs.Stores.Changes.{KeepsOwner, at_keeps_owner, rows_of_map}
+use Rattle.lf_poolstore.specs.declared.place.Place.{Place}
+use Rattle.lf_poolstore.specs.Pools.{ArePools, Numbers, UnitsAt, place_of, rows_by, spare_by, unit_by, unit_of}
+use Rattle.lf_poolstore.specs.Units.{IsWhole, StandsAt, UnitView, place_in}
+use Rattle.lf_poolstore.proofs.PoolRows.{Slots, some_same}
+
+-- ---- changes of rows that go owner by owner
+-- what is done to rows is done to those of each owner, and nothing where the name has no row
+pub record Turning (f : List CountedRow → List CountedRow) (o : ObjId) : Type 0 where
+  pub turns : (w : Owner) (rows : List CountedRow) → rows_of w (f rows) ≡ f (rows_of w rows)
+  pub away : (rows : List CountedRow) → row_named rows o ≡ None → f rows ≡ rows
+
+not_named : (o : ObjId) (c : CountedRow) (cs : List CountedRow) → row_named (c ∷ cs) o ≡ None → (is_named o c ≡ false) × (row_named cs o ≡ None)
+not_named o c cs e = elim (is_named o c) as (λ b. cond b (Some c) (row_named cs o) ≡ None → (b ≡ false) × (row_named cs o ≡ None)) [
+  | true ↦ λ k. absurd (cc k)
+  | false ↦ λ k. (refl, k)
+] e
+
+pub changed_turns : (o : ObjId) (g : CountedRow → CountedRow) → KeepsOwner g → Turning (λ rows. changed rows o g) o
+changed_turns o g keeps = record { turns = λ w rows. rows_of_map w (λ c. cond (is_named o c) (g c) c) (at_keeps_owner o g keeps) rows; away = stays } where
+  stays : (rows : List CountedRow) → row_named rows o ≡ None → changed rows o g ≡ rows
+  stays [] e = refl
+  stays (c ∷ cs) e = let n = not_named o c cs e in λ i. ap (λ b. cond b (g c) c) n.0 i ∷ stays cs n.1 i
+
+pub without_turns : (o : ObjId) → Turning (λ rows. without_row rows o) o
+without_turns o = record { turns = λ w rows. filter_turns (is_under w) (λ c. not (is_named o c)) rows; away = stays } where
+  stays : (rows : List CountedRow) → row_named rows o ≡ None → without_row rows o ≡ rows
+  stays [] e = refl
+  stays (c ∷ cs) e = let n = not_named o c cs e in ap (λ b. cond (not b) (c ∷ without_row cs o) (without_row cs o)) n.0 ∙ ap (λ t. c ∷ t) (stays cs n.1)
+
+-- ---- a unit in the place of another one
+in_range : (ss : Slots) (n : ℕ) (u : UnitView) → slice_index_or ss n None ≡ Some u → n < length ss
+in_range [] n u e = cc
+in_range (s ∷ ss) zero u e = omega arith
+in_range (s ∷ ss) (suc n) u e = let l = in_range ss n u e in omega (arith, l)
+
+pub slot_set : (ss : Slots) (n : ℕ) (u v : UnitView) → slice_index_or ss n None ≡ Some u → (m : ℕ) → slice_index_or (slice_set ss n (Some v)) m None ≡ cond (eqb n m) (Some v) (slice_index_or ss m None)
+slot_set ss n u v e m = elim (eqb n m) as (λ b. eqb n m ≡ b → slice_index_or (slice_set ss n (Some v)) m None ≡ cond b (Some v) (slice_index_or ss m None)) [
+  | true ↦ λ t. ap (λ k. slice_index_or (slice_set ss n (Some v)) k None) (sym ((Decides-eqb n m).0 t)) ∙ get_or-set_same ss n (Some v) None (in_range ss n u e)
+  | false ↦ λ f. get_or-set_other ss n m (Some v) None (λ k. let t : eqb n m ≡ true = (Decides-eqb n m).1 (sym k) in cc (t, f))
+] refl
+
+module _ (index : ObjId → Option Place) (numbers : Numbers) (at now : UnitsAt) (is : ArePools index numbers at) (n : ℕ) (u v : UnitView) (here : at n ≡ Some u) (change : (m : ℕ) → now m ≡ cond (eqb n m) (Some v) (at m))
+    (owner : v.owner ≡ u.owner) (whole : IsWhole v) where
+  -- a unit now is the new one, or one of before
+  data Now (m : ℕ) (t : UnitView) : Type 0 where
+    this : n ≡ m → t ≡ v → Now m t
+    that : at m ≡ Some t → Now m t
+
+  now_at : (m : ℕ) (t : UnitView) → now m ≡ Some t → Now m t
+  now_at m t e = go (eqb n m) refl (sym (change m) ∙ e) where
+    go : (b : Bool) → eqb n m ≡ b → cond b (Some v) (at m) ≡ Some t → Now m t
+    go true k g = this ((Decides-eqb n m).0 k) (sym (some_same v t g))
+    go false k g = that g
+
+  owners_stay : (t : Option ℕ) → option_map (λ (x : UnitView). x.owner) (unit_by now t) ≡ option_map (λ (x : UnitView). x.owner) (unit_by at t)
+  owners_stay None = refl
+  owners_stay (Some m) = ap (option_map (λ (x : UnitView). x.owner)) (change m) ∙ go (eqb n m) refl where
+    go : (b : Bool) → eqb n m ≡ b → option_map (λ (x : UnitView). x.owner) (cond b (Some v) (at m)) ≡ option_map (λ (x : UnitView). x.owner) (at m)
+    go false k = refl
+    go true k = ap Some owner ∙ ap (option_map (λ (x : UnitView). x.owner)) (sym here ∙ ap at ((Decides-eqb n m).0 k))
+
+  pub changed_kept : ((r : ObjId) (x : ℕ) → StandsAt v x r → StandsAt u x r) → ArePools index numbers now
+  changed_kept fewer = record {
+    whole = λ m t e. whole_now m t (now_at m t e);
+    owned = λ m t e. owned_now m t (now_at m t e);
+    there = λ w. owners_stay (numbers w) ∙ is.there w;
+    indexed = λ m t r x e s. indexed_now m t r x s (now_at m t e);
+  } where
+    whole_now : (m : ℕ) (t : UnitView) → Now m t → IsWhole t
+    whole_now m t (this k e) = subst IsWhole (sym e) whole
+    whole_now m t (that e) = is.whole m t e
+
+    owned_now : (m : ℕ) (t : UnitView) → Now m t → numbers t.owner ≡ Some m
+    owned_now m t (this k e) = ap (λ (y : UnitView). numbers y.owner) e ∙ ap numbers owner ∙ is.owned n u here ∙ ap Some k
+    owned_now m t (that e) = is.owned m t e
+
+    indexed_now : (m : ℕ) (t : UnitView) (r : ObjId) (x : ℕ) → StandsAt t x r → Now m t → index r ≡ Some (place_of m x)
+    indexed_now m t r x s (this k e) = is.indexed n u r x here (fewer r x (subst (λ y. StandsAt y x r) e s)) ∙ ap (λ j. Some (place_of j x)) k
+    indexed_now m t r x s (that e) = is.indexed m t r x e s
+
+  -- the rows of each owner are changed as those of the unit are
+  module _ (o : ObjId) (x : ℕ) (stands : StandsAt u x o) (f : List CountedRow → List CountedRow) (turning : Turning f o) (rows_are : v.rows ≡ f u.rows) where
+    elsewhere : (m : ℕ) (t : UnitView) → eqb n m ≡ false → at m ≡ Some t → row_named t.rows o ≡ None
+    elsewhere m t d e = go (row_named t.rows o) refl (place_in t o) refl where
+      go : (r : Option CountedRow) → row_named t.rows o ≡ r → (y : Option ℕ) → place_in t o ≡ y → r ≡ None
+      go None g y k = refl
+      go (Some c) g None k = let h = sym (ap is_some g) ∙ (is.whole m t e).placed o ∙ ap is_some k in absurd (cc h)
+      go (Some c) g (Some y) k =
+          let p = sym (is.indexed n u o x here stands) ∙ is.indexed m t o y e k in
+          let same : eqb n m ≡ true = (Decides-eqb n m).1 (ap (number_in n) p) in
+          absurd (cc (same, d))
+        where
+          number_in : ℕ → Option Place → ℕ
+          number_in j None = j
+          number_in j (Some q) = q.unit
+
+    rows_stay : (t : Option ℕ) → rows_by (unit_by now t) ≡ f (rows_by (unit_by at t))
+    rows_stay None = sym (turning.away [] refl)
+    rows_stay (Some m) = ap rows_by (change m) ∙ go (eqb n m) refl (at m) refl where
+      go : (b : Bool) → eqb n m ≡ b → (t : Option UnitView) → at m ≡ t → rows_by (cond b (Some v) (at m)) ≡ f (rows_by (at m))
+      go true k t e = rows_are ∙ ap (λ y. f (rows_by y)) (sym here ∙ ap at ((Decides-eqb n m).0 k))
+      go false k None e = ap rows_by e ∙ sym (turning.away [] refl) ∙ sym (ap (λ y. f (rows_by y)) e)
+      go false k (Some t) e = ap rows_by e ∙ sym (turning.away t.rows (elsewhere m t k e)) ∙ sym (ap (λ y. f (rows_by y)) e)
+
+    pub changed_rows : (rows new : List CountedRow) → ((w : Owner) → rows_of w rows ≡ rows_by (unit_of numbers at w)) → ((w : Owner) → rows_of w new ≡ rows_by (unit_of numbers now w)) → SameByOwner new (f rows)
+    changed_rows rows new shown shown_now w = shown_now w ∙ rows_stay (numbers w) ∙ sym (turning.turns w rows ∙ ap f (shown w))
+
+  -- the room of each owner
+  pub changed_room : (k names : ℕ) → u.spare ≤ v.spare + k → (w : Owner) → spare_by names (unit_of numbers at w) ≤ spare_by names (unit_of numbers now w) + k
+  changed_room k names l w = go (numbers w) where
+    more : min names u.spare ≤ min names v.spare + k
+    more = omega (arith, l)
+
+    at_number : (m : ℕ) (b : Bool) → eqb n m ≡ b → spare_by names (at m) ≤ spare_by names (cond b (Some v) (at m)) + k
+    at_number m true t = subst (λ y. spare_by names y ≤ min names v.spare + k) (sym here ∙ ap at ((Decides-eqb n m).0 t)) more
+    at_number m false t = omega arith
+
+    go : (t : Option ℕ) → spare_by names (unit_by at t) ≤ spare_by names (unit_by now t) + k
+    go None = omega arith
+    go (Some m) = subst (λ y. spare_by names (at m) ≤ spare_by names y + k) (sym (change m)) (at_number m (eqb n m) refl)

@@ -1,0 +1,8 @@
+use Rattle.std.proofs.Common.{refl}
+use Rattle.lf_base.specs.declared.values.Owner.TheVariants.{Frozen, In, Local}
+use Rattle.lf_poolstore.proofs.owner_units.OwnerUnits.reserve.Goals as goal
+
+pub returns-in-Ok-clause-numbers : goal.returns-in-Ok-clause-numbers
+returns-in-Ok-clause-numbers c Local = refl
+returns-in-Ok-clause-numbers c (In r) = c.reserve.ensures.entries.2 r
+returns-in-Ok-clause-numbers c Frozen = refl

@@ -1,0 +1,16 @@
+use Rattle.std.proofs.Common.{ap, sym, ◌∙◌}
+use Rattle.lf_base.specs.FieldOrder.{field_after}
+use Rattle.lf_graph.specs.StoredRows.{fields_by}
+use Rattle.lf_poolstore.proofs.PoolFacts.{place_found, place_some, place_stands}
+use Rattle.lf_poolstore.proofs.pools.Pools.field_after.Goals as goal
+
+pub unit_at-requires : goal.unit_at-requires
+unit_at-requires c = place_some c.args.self.now c.args.o c.get-place.result c.get-place.ensures c.requires
+
+pub field_after-requires : goal.field_after-requires
+field_after-requires c = (c.args.o, place_stands c.args.self.now c.args.o c.get-place.result c.get-place.ensures c.requires c.unit_at.result.now c.unit_at.ensures)
+
+pub returns : goal.returns
+returns c =
+    let s = place_stands c.args.self.now c.args.o c.get-place.result c.get-place.ensures c.requires c.unit_at.result.now c.unit_at.ensures in
+    c.field_after.ensures c.args.o s ∙ sym (ap (λ t. field_after (fields_by t) c.args.after) (place_found c.args.self.now c.args.o c.get-place.result c.get-place.ensures c.unit_at.result.now c.unit_at.ensures s))

@@ -1,0 +1,66 @@
+-- A store's units by their numbers, and where each owner's unit and each row is found.
+use Rattle.std.specs.Prelude.{List, None, Option, Some, [], min, ℕ, ◌++◌, ◌∷◌, ◌≡◌}
+use Rattle.std.specs.Option.{option_map}
+use Rattle.std.specs.HashMap.{HashMap}
+use Rattle.std.specs.HashMap as hash
+use Rattle.lf_base.specs.declared.ids.ObjId.{ObjId}
+use Rattle.lf_base.specs.declared.values.Owner.{Owner}
+use Rattle.lf_base.specs.declared.values.Owner.TheVariants.{Frozen, In, Local}
+use Rattle.lf_base.specs.Names.{same_name}
+use Rattle.lf_graph.specs.StoredRows.{CountedRow}
+use Rattle.lf_poolstore.specs.declared.place.Place.{Place}
+use Rattle.lf_poolstore.specs.Units.{IsWhole, StandsAt, UnitView}
+
+-- the unit of each number, where there is one
+abbrev pub UnitsAt : Type 0
+UnitsAt = ℕ → Option UnitView
+
+-- the number of each owner's unit, where there is one
+abbrev pub Numbers : Type 0
+Numbers = Owner → Option ℕ
+
+-- the rows of a unit, where there is one
+abbrev pub rows_by : Option UnitView → List CountedRow
+rows_by None = []
+rows_by (Some u) = u.rows
+
+-- the rows of all these units
+abbrev pub slot_rows : List (Option UnitView) → List CountedRow
+slot_rows [] = []
+slot_rows (s ∷ ss) = rows_by s ++ slot_rows ss
+
+-- the unit of a number, where there is one
+abbrev pub unit_by : UnitsAt → Option ℕ → Option UnitView
+unit_by at None = None
+unit_by at (Some n) = at n
+
+-- the unit of an owner
+abbrev pub unit_of : Numbers → UnitsAt → Owner → Option UnitView
+unit_of numbers at w = unit_by at (numbers w)
+
+-- so many cells have room in a unit, where the index of names has room for so many
+abbrev pub spare_by : ℕ → Option UnitView → ℕ
+spare_by names None = 0
+spare_by names (Some u) = min names u.spare
+
+abbrev pub place_of : ℕ → ℕ → Place
+place_of n x = record { unit = n; row = x }
+
+-- the number of an owner's unit: that of local rows, that of frozen rows, or that of a region
+abbrev pub number_of : {S : Type 0} → ℕ → ℕ → HashMap ObjId ℕ S → Numbers
+number_of local frozen regions Local = Some local
+number_of local frozen regions (In r) = hash.get same_name regions r
+number_of local frozen regions Frozen = Some frozen
+
+-- the same where no region has a unit
+abbrev pub first_number_of : ℕ → ℕ → Numbers
+first_number_of local frozen Local = Some local
+first_number_of local frozen (In r) = None
+first_number_of local frozen Frozen = Some frozen
+
+-- each owner's number leads to its unit, each unit has its owner's number, and the index leads to each row
+pub record ArePools (index : ObjId → Option Place) (numbers : Numbers) (at : UnitsAt) : Type 0 where
+  pub whole : (n : ℕ) → (u : UnitView) → at n ≡ Some u → IsWhole u
+  pub owned : (n : ℕ) → (u : UnitView) → at n ≡ Some u → numbers u.owner ≡ Some n
+  pub there : (w : Owner) → option_map (λ (u : UnitView). u.owner) (unit_of numbers at w) ≡ option_map (λ _. w) (numbers w)
+  pub indexed : (n : ℕ) → (u : UnitView) → (o : ObjId) → (x : ℕ) → at n ≡ Some u → StandsAt u x o → index o ≡ Some (place_of n x)
