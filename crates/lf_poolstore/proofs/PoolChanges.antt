@@ -1,18 +1,22 @@
 -- Pools after a change of one unit.
-use Rattle.std.proofs.Common.{◌≡◌, ℕ, Bool, true, false, cond, not, min, ◌+◌, ◌<◌, ◌≤◌, is_some, List, [], ◌∷◌, length, slice_index_or, slice_set, option_map, Option, Some, None, refl, ap, sym, ◌∙◌, subst, zero, suc, arith}
+use Rattle.std.proofs.Common.{◌≢◌, ◌≡◌, ℕ, Bool, true, false, cond, not, min, ◌+◌, ◌<◌, ◌≤◌, is_some, List, [], ◌∷◌, ◌++◌, length, slice_index_or, slice_set, option_map, Option, Some, None, refl, ap, sym, ◌∙◌, subst, zero, suc, arith}
 use Rattle.std.specs.Prelude.{eqb}
 use Rattle.std.proofs.lemmas.Bool.Decides.{Decides-eqb}
 use Rattle.std.proofs.lemmas.List.{get_or-set_other, get_or-set_same}
 use Rattle.lf_base.specs.declared.ids.ObjId.{ObjId}
 use Rattle.lf_base.specs.declared.values.Owner.{Owner}
 use Rattle.lf_graph.specs.RowChanges.{changed, without_row}
-use Rattle.lf_graph.specs.StoredRows.{CountedRow, SameByOwner, is_named, is_under, row_named, rows_of}
+use Rattle.lf_graph.specs.StoredRows.{CountedRow, IsNewName, SameByOwner, is_named, is_under, row_named, rows_of}
 use Rattle.lf_graph.proofs.ListLemmas.{filter_turns}
 use Rattle.lf_graph.proofs.Stores.Changes.{KeepsOwner, at_keeps_owner, rows_of_map}
 use Rattle.lf_poolstore.specs.declared.place.Place.{Place}
 use Rattle.lf_poolstore.specs.Pools.{ArePools, Numbers, UnitsAt, place_of, rows_by, spare_by, unit_by, unit_of}
 use Rattle.lf_poolstore.specs.Units.{IsWhole, StandsAt, UnitView, place_in}
-use Rattle.lf_poolstore.proofs.PoolRows.{Slots, some_same}
+use Rattle.lf_base.specs.Names.{same_name, same_owner}
+use Rattle.lf_base.proofs.NameLemmas.SameNames.{same_name_is}
+use Rattle.lf_graph.proofs.Stores.Reordered.{rows_append, same_owner_is, same_owner_itself}
+use Rattle.std.proofs.lemmas.List.{append-nil}
+use Rattle.lf_poolstore.proofs.PoolRows.{Slots, found_there, some_same, unit_there}
 
 -- ---- changes of rows that go owner by owner
 -- what is done to rows is done to those of each owner, and nothing where the name has no row
@@ -55,13 +59,13 @@ module _ (index : ObjId → Option Place) (numbers : Numbers) (at now : UnitsAt)
   -- a unit now is the new one, or one of before
   data Now (m : ℕ) (t : UnitView) : Type 0 where
     this : n ≡ m → t ≡ v → Now m t
-    that : at m ≡ Some t → Now m t
+    that : eqb n m ≡ false → at m ≡ Some t → Now m t
 
   now_at : (m : ℕ) (t : UnitView) → now m ≡ Some t → Now m t
   now_at m t e = go (eqb n m) refl (sym (change m) ∙ e) where
     go : (b : Bool) → eqb n m ≡ b → cond b (Some v) (at m) ≡ Some t → Now m t
     go true k g = this ((Decides-eqb n m).0 k) (sym (some_same v t g))
-    go false k g = that g
+    go false k g = that k g
 
   owners_stay : (t : Option ℕ) → option_map (λ (x : UnitView). x.owner) (unit_by now t) ≡ option_map (λ (x : UnitView). x.owner) (unit_by at t)
   owners_stay None = refl
@@ -70,8 +74,10 @@ module _ (index : ObjId → Option Place) (numbers : Numbers) (at now : UnitsAt)
     go false k = refl
     go true k = ap Some owner ∙ ap (option_map (λ (x : UnitView). x.owner)) (sym here ∙ ap at ((Decides-eqb n m).0 k))
 
-  pub changed_kept : ((r : ObjId) (x : ℕ) → StandsAt v x r → StandsAt u x r) → ArePools index numbers now
-  changed_kept fewer = record {
+  -- where the index leads to the rows of this unit and of all others
+  pub kept_by : (led : ObjId → Option Place) → ((r : ObjId) (x : ℕ) → StandsAt v x r → led r ≡ Some (place_of n x)) → ((m : ℕ) (t : UnitView) (r : ObjId) (x : ℕ) → eqb n m ≡ false → at m ≡ Some t → StandsAt t x r → led r ≡ Some (place_of m x))
+      → ArePools led numbers now
+  kept_by led this_led that_led = record {
     whole = λ m t e. whole_now m t (now_at m t e);
     owned = λ m t e. owned_now m t (now_at m t e);
     there = λ w. owners_stay (numbers w) ∙ is.there w;
@@ -79,15 +85,18 @@ module _ (index : ObjId → Option Place) (numbers : Numbers) (at now : UnitsAt)
   } where
     whole_now : (m : ℕ) (t : UnitView) → Now m t → IsWhole t
     whole_now m t (this k e) = subst IsWhole (sym e) whole
-    whole_now m t (that e) = is.whole m t e
+    whole_now m t (that d e) = is.whole m t e
 
     owned_now : (m : ℕ) (t : UnitView) → Now m t → numbers t.owner ≡ Some m
     owned_now m t (this k e) = ap (λ (y : UnitView). numbers y.owner) e ∙ ap numbers owner ∙ is.owned n u here ∙ ap Some k
-    owned_now m t (that e) = is.owned m t e
+    owned_now m t (that d e) = is.owned m t e
 
-    indexed_now : (m : ℕ) (t : UnitView) (r : ObjId) (x : ℕ) → StandsAt t x r → Now m t → index r ≡ Some (place_of m x)
-    indexed_now m t r x s (this k e) = is.indexed n u r x here (fewer r x (subst (λ y. StandsAt y x r) e s)) ∙ ap (λ j. Some (place_of j x)) k
-    indexed_now m t r x s (that e) = is.indexed m t r x e s
+    indexed_now : (m : ℕ) (t : UnitView) (r : ObjId) (x : ℕ) → StandsAt t x r → Now m t → led r ≡ Some (place_of m x)
+    indexed_now m t r x s (this k e) = this_led r x (subst (λ y. StandsAt y x r) e s) ∙ ap (λ j. Some (place_of j x)) k
+    indexed_now m t r x s (that d e) = that_led m t r x d e s
+
+  pub changed_kept : ((r : ObjId) (x : ℕ) → StandsAt v x r → StandsAt u x r) → ArePools index numbers now
+  changed_kept fewer = kept_by index (λ r x s. is.indexed n u r x here (fewer r x s)) (λ m t r x d e s. is.indexed m t r x e s)
 
   -- the rows of each owner are changed as those of the unit are
   module _ (o : ObjId) (x : ℕ) (stands : StandsAt u x o) (f : List CountedRow → List CountedRow) (turning : Turning f o) (rows_are : v.rows ≡ f u.rows) where
@@ -117,15 +126,75 @@ module _ (index : ObjId → Option Place) (numbers : Numbers) (at now : UnitsAt)
     changed_rows rows new shown shown_now w = shown_now w ∙ rows_stay (numbers w) ∙ sym (turning.turns w rows ∙ ap f (shown w))
 
   -- the room of each owner
-  pub changed_room : (k names : ℕ) → u.spare ≤ v.spare + k → (w : Owner) → spare_by names (unit_of numbers at w) ≤ spare_by names (unit_of numbers now w) + k
-  changed_room k names l w = go (numbers w) where
-    more : min names u.spare ≤ min names v.spare + k
-    more = omega (arith, l)
+  pub changed_room : (k names left : ℕ) → names ≤ left + k → u.spare ≤ v.spare + k → (w : Owner) → spare_by names (unit_of numbers at w) ≤ spare_by left (unit_of numbers now w) + k
+  changed_room k names left l1 l w = go (numbers w) where
+    more : min names u.spare ≤ min left v.spare + k
+    more = omega (arith, l1, l)
 
-    at_number : (m : ℕ) (b : Bool) → eqb n m ≡ b → spare_by names (at m) ≤ spare_by names (cond b (Some v) (at m)) + k
-    at_number m true t = subst (λ y. spare_by names y ≤ min names v.spare + k) (sym here ∙ ap at ((Decides-eqb n m).0 t)) more
-    at_number m false t = omega arith
+    same : (t : Option UnitView) → spare_by names t ≤ spare_by left t + k
+    same None = omega arith
+    same (Some t) = omega (arith, l1)
 
-    go : (t : Option ℕ) → spare_by names (unit_by at t) ≤ spare_by names (unit_by now t) + k
+    at_number : (m : ℕ) (b : Bool) → eqb n m ≡ b → spare_by names (at m) ≤ spare_by left (cond b (Some v) (at m)) + k
+    at_number m true t = subst (λ y. spare_by names y ≤ min left v.spare + k) (sym here ∙ ap at ((Decides-eqb n m).0 t)) more
+    at_number m false t = same (at m)
+
+    go : (t : Option ℕ) → spare_by names (unit_by at t) ≤ spare_by left (unit_by now t) + k
     go None = omega arith
-    go (Some m) = subst (λ y. spare_by names (at m) ≤ spare_by names y + k) (sym (change m)) (at_number m (eqb n m) refl)
+    go (Some m) = subst (λ y. spare_by names (at m) ≤ spare_by left y + k) (sym (change m)) (at_number m (eqb n m) refl)
+
+-- ---- a row comes last in a unit, and the index is led to it
+module _ (index led : ObjId → Option Place) (numbers : Numbers) (at now : UnitsAt) (is : ArePools index numbers at) (n : ℕ) (u v : UnitView) (here : at n ≡ Some u) (change : (m : ℕ) → now m ≡ cond (eqb n m) (Some v) (at m))
+    (owner : v.owner ≡ u.owner) (whole : IsWhole v) (rows : List CountedRow) (shown : (w : Owner) → rows_of w rows ≡ rows_by (unit_of numbers at w)) (o : ObjId) (x : ℕ) (new : IsNewName rows o)
+    (places : (q : ObjId) → place_in v q ≡ cond (same_name o q) (Some x) (place_in u q)) (led_is : (q : ObjId) → led q ≡ cond (same_name o q) (Some (place_of n x)) (index q)) where
+  -- no unit has a row of that name
+  nowhere : (m : ℕ) (t : UnitView) (y : ℕ) → at m ≡ Some t → StandsAt t y o → ⊥
+  nowhere m t y e s =
+      let found = found_there index numbers at is rows shown o m t y e s in
+      let some = sym (ap is_some (sym found ∙ new)) ∙ (is.whole m t e).placed o ∙ ap is_some s in
+      cc some
+
+  led_other : (m : ℕ) (t : UnitView) (r : ObjId) (y : ℕ) → at m ≡ Some t → StandsAt t y r → led r ≡ Some (place_of m y)
+  led_other m t r y e s = led_is r ∙ (elim (same_name o r) as (λ b. same_name o r ≡ b → cond b (Some (place_of n x)) (index r) ≡ Some (place_of m y)) [
+    | true ↦ λ k. absurd (nowhere m t y e (subst (λ z. StandsAt t y z) (sym (same_name_is o r k)) s))
+    | false ↦ λ _. is.indexed m t r y e s
+  ] refl)
+
+  led_this : (r : ObjId) (y : ℕ) → StandsAt v y r → led r ≡ Some (place_of n y)
+  led_this r y s = led_is r ∙ (elim (same_name o r) as (λ b. cond b (Some x) (place_in u r) ≡ Some y → cond b (Some (place_of n x)) (index r) ≡ Some (place_of n y)) [
+    | true ↦ λ k. ap (λ z. Some (place_of n z)) (some_same x y k)
+    | false ↦ λ k. is.indexed n u r y here k
+  ] (sym (places r) ∙ s))
+
+  pub pushed_kept : ArePools led numbers now
+  pushed_kept = kept_by index numbers at now is n u v here change owner whole led led_this (λ m t r y d e s. led_other m t r y e s)
+
+  pub pushed_rows : (c : CountedRow) → v.rows ≡ u.rows ++ c ∷ [] → (c.row).owner ≡ u.owner → (after : List CountedRow) → ((w : Owner) → rows_of w after ≡ rows_by (unit_of numbers now w)) → SameByOwner after (rows ++ c ∷ [])
+  pushed_rows c are under after shown_now w = shown_now w ∙ go (numbers w) refl ∙ sym (rows_append w rows (c ∷ []) ∙ ap (λ t. t ++ rows_of w (c ∷ [])) (shown w)) where
+    -- the row is under w exactly where w has the unit's number
+    go : (t : Option ℕ) → numbers w ≡ t → rows_by (unit_by now t) ≡ rows_by (unit_of numbers at w) ++ rows_of w (c ∷ [])
+    go t e = sym (ap (λ k. rows_by (unit_by at k) ++ rows_of w (c ∷ [])) e ∙ one t e) where
+      away : same_owner (c.row).owner w ≡ false → rows_of w (c ∷ []) ≡ []
+      away f = ap (λ b. cond b (c ∷ []) []) f
+
+      not_this : (s : Option ℕ) → numbers w ≡ s → s ≢ Some n → same_owner (c.row).owner w ≡ false
+      not_this s e d = elim (same_owner (c.row).owner w) as (λ b. same_owner (c.row).owner w ≡ b → b ≡ false) [
+        | true ↦ λ k. absurd (d (sym e ∙ ap numbers (sym (same_owner_is (c.row).owner w k) ∙ under) ∙ is.owned n u here))
+        | false ↦ λ _. refl
+      ] refl
+
+      one : (s : Option ℕ) → numbers w ≡ s → rows_by (unit_by at s) ++ rows_of w (c ∷ []) ≡ rows_by (unit_by now s)
+      one None e = ap (λ l. [] ++ l) (away (not_this None e (λ z. cc)))
+      one (Some m) e = elim (eqb n m) as (λ b. eqb n m ≡ b → rows_by (at m) ++ rows_of w (c ∷ []) ≡ rows_by (now m)) [
+        | true ↦ λ k.
+            let same = (Decides-eqb n m).0 k in
+            let there : at m ≡ Some u = ap at (sym same) ∙ here in
+            let own : u.owner ≡ w = owned_by m there e in
+            ap (λ y. rows_by y ++ rows_of w (c ∷ [])) there ∙ ap (λ b. u.rows ++ cond b (c ∷ []) []) (ap (λ y. same_owner y w) (under ∙ own) ∙ same_owner_itself w) ∙ sym are
+            ∙ ap rows_by (sym (change m ∙ ap (λ b. cond b (Some v) (at m)) k))
+        | false ↦ λ k.
+            ap (λ l. rows_by (at m) ++ l) (away (not_this (Some m) e (λ z. let t : eqb n m ≡ true = (Decides-eqb n m).1 (sym (some_same m n z)) in cc (t, k))))
+            ∙ append-nil (rows_by (at m)) ∙ ap rows_by (sym (change m ∙ ap (λ b. cond b (Some v) (at m)) k))
+      ] refl where
+        owned_by : (j : ℕ) → at j ≡ Some u → numbers w ≡ Some j → u.owner ≡ w
+        owned_by j f g = let t = unit_there index numbers at is w j g in ap (λ (y : UnitView). y.owner) (some_same u t.0 (sym f ∙ t.1)) ∙ t.2

@@ -33,7 +33,7 @@ module _ (p : Pools) (o : ObjId) (q : Place) (is : q ≡ place_or (place_at p.in
         (shown_rows (place_at p.index) (numbers_in p) (slice_set p.units.slots q.unit (Some v)) step_kept)
 
     pub step_room : (k : ℕ) → u.spare ≤ v.spare + k → (w : Owner) → pool_spare p w ≤ spare_by (index_room p.index) (unit_of (numbers_in p) (get (with_value p.units q.unit v)) w) + k
-    step_room k l = changed_room (place_at p.index) (numbers_in p) (get p.units) (get (with_value p.units q.unit v)) p.kept q.unit u v at (slot_set p.units.slots q.unit u v at) owner whole k (index_room p.index) l
+    step_room k l = changed_room (place_at p.index) (numbers_in p) (get p.units) (get (with_value p.units q.unit v)) p.kept q.unit u v at (slot_set p.units.slots q.unit u v at) owner whole k (index_room p.index) (index_room p.index) (omega arith) l
 
     pub step_room_none : u.spare ≤ v.spare → (w : Owner) → pool_spare p w ≤ spare_by (index_room p.index) (unit_of (numbers_in p) (get (with_value p.units q.unit v)) w)
     step_room_none l w = let r = step_room 0 (omega (arith, l)) w in omega (arith, r)

@@ -4,6 +4,7 @@ ghost use Rattle.lf_poolstore.specs.Index.{place_at};
 ghost use Rattle.lf_poolstore.specs.Pools.{ArePools, number_of};
 
 mod changes;
+mod owners;
 mod reads;
 
 use crate::name_index::NameIndex;
