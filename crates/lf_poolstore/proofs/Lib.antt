@@ -3,6 +3,7 @@ pub mod PoolRows
 pub mod PoolFacts
 pub mod PoolChanges
 pub mod PoolSteps
+pub mod AddedUnits
 pub mod CellFields
 pub mod FieldPlaces
 pub mod Entries

@@ -125,6 +125,16 @@ module _ (index : ObjId → Option Place) (numbers : Numbers) (at now : UnitsAt)
     pub changed_rows : (rows new : List CountedRow) → ((w : Owner) → rows_of w rows ≡ rows_by (unit_of numbers at w)) → ((w : Owner) → rows_of w new ≡ rows_by (unit_of numbers now w)) → SameByOwner new (f rows)
     changed_rows rows new shown shown_now w = shown_now w ∙ rows_stay (numbers w) ∙ sym (turning.turns w rows ∙ ap f (shown w))
 
+  -- the rows of each owner where those of the unit stay
+  pub unit_stays : v.rows ≡ u.rows → (rows new : List CountedRow) → ((w : Owner) → rows_of w rows ≡ rows_by (unit_of numbers at w)) → ((w : Owner) → rows_of w new ≡ rows_by (unit_of numbers now w)) → SameByOwner new rows
+  unit_stays same rows new shown shown_now w = shown_now w ∙ stay (numbers w) ∙ sym (shown w) where
+    stay : (t : Option ℕ) → rows_by (unit_by now t) ≡ rows_by (unit_by at t)
+    stay None = refl
+    stay (Some m) = ap rows_by (change m) ∙ go (eqb n m) refl where
+      go : (b : Bool) → eqb n m ≡ b → rows_by (cond b (Some v) (at m)) ≡ rows_by (at m)
+      go false k = refl
+      go true k = same ∙ ap rows_by (sym here ∙ ap at ((Decides-eqb n m).0 k))
+
   -- the room of each owner
   pub changed_room : (k names left : ℕ) → names ≤ left + k → u.spare ≤ v.spare + k → (w : Owner) → spare_by names (unit_of numbers at w) ≤ spare_by left (unit_of numbers now w) + k
   changed_room k names left l1 l w = go (numbers w) where

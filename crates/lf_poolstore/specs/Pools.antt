@@ -1,12 +1,12 @@
 -- A store's units by their numbers, and where each owner's unit and each row is found.
-use Rattle.std.specs.Prelude.{List, None, Option, Some, [], min, ℕ, ◌++◌, ◌∷◌, ◌≡◌}
+use Rattle.std.specs.Prelude.{List, None, Option, Some, [], cond, min, ℕ, ◌++◌, ◌∷◌, ◌≡◌, ◌≢◌}
 use Rattle.std.specs.Option.{option_map}
 use Rattle.std.specs.HashMap.{HashMap}
 use Rattle.std.specs.HashMap as hash
 use Rattle.lf_base.specs.declared.ids.ObjId.{ObjId}
 use Rattle.lf_base.specs.declared.values.Owner.{Owner}
 use Rattle.lf_base.specs.declared.values.Owner.TheVariants.{Frozen, In, Local}
-use Rattle.lf_base.specs.Names.{same_name}
+use Rattle.lf_base.specs.Names.{same_name, same_owner}
 use Rattle.lf_graph.specs.StoredRows.{CountedRow}
 use Rattle.lf_poolstore.specs.declared.place.Place.{Place}
 use Rattle.lf_poolstore.specs.Units.{IsWhole, StandsAt, UnitView}
@@ -64,3 +64,15 @@ pub record ArePools (index : ObjId → Option Place) (numbers : Numbers) (at : U
   pub owned : (n : ℕ) → (u : UnitView) → at n ≡ Some u → numbers u.owner ≡ Some n
   pub there : (w : Owner) → option_map (λ (u : UnitView). u.owner) (unit_of numbers at w) ≡ option_map (λ _. w) (numbers w)
   pub indexed : (n : ℕ) → (u : UnitView) → (o : ObjId) → (x : ℕ) → at n ≡ Some u → StandsAt u x o → index o ≡ Some (place_of n x)
+
+-- a unit comes under a number that had none, and its owner has that number
+pub record AddsUnit (numbers next : Numbers) (at now : UnitsAt) (n : ℕ) (v : UnitView) : Type 0 where
+  pub vacant : at n ≡ None
+  pub here : now n ≡ Some v
+  pub others : (m : ℕ) → m ≢ n → now m ≡ at m
+  pub number : (w : Owner) → next w ≡ cond (same_owner v.owner w) (Some n) (numbers w)
+
+-- the same numbers and units
+pub record SamePools (numbers next : Numbers) (at now : UnitsAt) : Type 0 where
+  pub number : (w : Owner) → next w ≡ numbers w
+  pub unit : (m : ℕ) → now m ≡ at m

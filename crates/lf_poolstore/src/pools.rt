@@ -6,6 +6,7 @@ ghost use Rattle.lf_poolstore.specs.Pools.{ArePools, number_of};
 mod changes;
 mod owners;
 mod reads;
+mod units;
 
 use crate::name_index::NameIndex;
 use crate::owner_units::OwnerUnits;
