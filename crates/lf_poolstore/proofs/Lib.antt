@@ -4,6 +4,7 @@ pub mod PoolFacts
 pub mod PoolChanges
 pub mod PoolSteps
 pub mod AddedUnits
+pub mod FirstPools
 pub mod CellFields
 pub mod FieldPlaces
 pub mod Entries

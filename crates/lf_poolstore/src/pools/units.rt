@@ -1,18 +1,20 @@
 //! Units that come under the owners of the pools.
 
-ghost use Rattle.std.specs.Prelude.{◌≡◌, ◌≤◌, IfErr, IfOk, OnErr, OnOk, Some};
+ghost use Rattle.std.specs.Prelude.{◌≡◌, ◌≤◌, [], IfErr, IfOk, None, OnErr, OnOk, Some};
 ghost use Rattle.lf_base.specs.declared.values.Owner.TheVariants.{In};
 ghost use Rattle.lf_graph.specs.Room.{LowersNone};
 ghost use Rattle.lf_graph.specs.StoredRows.{SameByOwner};
 ghost use Rattle.lf_poolstore.specs.Pools.{AddsUnit, SamePools, number_of};
 ghost use Rattle.lf_poolstore.specs.PoolViews.{pool_number, pool_rows, pool_spare};
-ghost use Rattle.slab.specs.Slab.{get};
+ghost use Rattle.slab.specs.Slab.{Updates, get};
 
+use crate::name_index::NameIndex;
 use crate::owner_units::OwnerUnits;
 use crate::pools::Pools;
 use crate::unit::Unit;
 use lf_base::{ObjId, OutOfMemory, Owner};
 use slab::Slab;
+use std::alloc::Global;
 
 // Adds a region's unit, or hands it back.
 fn enter(
@@ -41,7 +43,36 @@ fn enter(
     }
 }
 
+// Adds a unit under a number that had none.
+fn add(units: &mut Slab<Unit>, unit: Unit) -> Result<u32, OutOfMemory>
+    ensures vacant { IfOk result (λ n. get units.old n ≡ None) }
+    ensures added { IfOk result (λ n. Updates units.old units.new n (Some unit)) }
+{
+    let Ok(number) = u32::try_from(units.vacant_key()) else {
+        return Err(OutOfMemory);
+    };
+    match units.insert(unit) {
+        Ok(_key) => Ok(number),
+        Err(_refused) => Err(OutOfMemory),
+    }
+}
+
 impl Pools {
+    /// Pools without rows, with a unit for local rows and one for frozen rows.
+    pub fn new(alloc: Global) -> Result<Pools, OutOfMemory>
+        ensures { IfOk result (λ p. pool_rows p ≡ []) }
+    {
+        let mut units = Slab::new(alloc);
+        let local = add(&mut units, Unit::new(alloc, Owner::Local))?;
+        let frozen = add(&mut units, Unit::new(alloc, Owner::Frozen))?;
+        Ok(Pools {
+            index: NameIndex::new(alloc),
+            units,
+            owners: OwnerUnits::new(alloc, local, frozen),
+            alloc,
+        })
+    }
+
     // The number of an owner's unit, which is made where there is none.
     fn unit_for(&mut self, owner: Owner) -> Result<u32, OutOfMemory>
         ensures number { IfOk result (λ n. pool_number self.new owner ≡ Some n) }
