@@ -5,6 +5,8 @@ pub mod PoolChanges
 pub mod PoolSteps
 pub mod AddedUnits
 pub mod FirstPools
+pub mod UnitSlots
+pub mod GivenRows
 pub mod CellFields
 pub mod FieldPlaces
 pub mod Entries

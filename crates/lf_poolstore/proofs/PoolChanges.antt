@@ -54,6 +54,22 @@ slot_set ss n u v e m = elim (eqb n m) as (λ b. eqb n m ≡ b → slice_index_o
   | false ↦ λ f. get_or-set_other ss n m (Some v) None (λ k. let t : eqb n m ≡ true = (Decides-eqb n m).1 (sym k) in cc (t, f))
 ] refl
 
+-- a row that stands in a unit stands in no other
+pub stands_alone : (index : ObjId → Option Place) (numbers : Numbers) (at : UnitsAt) → ArePools index numbers at → (n : ℕ) (u : UnitView) (o : ObjId) (x : ℕ) → at n ≡ Some u → StandsAt u x o
+    → (m : ℕ) (t : UnitView) → eqb n m ≡ false → at m ≡ Some t → row_named t.rows o ≡ None
+stands_alone index numbers at is n u o x here stands m t d e = go (row_named t.rows o) refl (place_in t o) refl where
+  number_in : ℕ → Option Place → ℕ
+  number_in j None = j
+  number_in j (Some q) = q.unit
+
+  go : (r : Option CountedRow) → row_named t.rows o ≡ r → (y : Option ℕ) → place_in t o ≡ y → r ≡ None
+  go None g y k = refl
+  go (Some c) g None k = let h = sym (ap is_some g) ∙ (is.whole m t e).placed o ∙ ap is_some k in absurd (cc h)
+  go (Some c) g (Some y) k =
+      let p = sym (is.indexed n u o x here stands) ∙ is.indexed m t o y e k in
+      let same : eqb n m ≡ true = (Decides-eqb n m).1 (ap (number_in n) p) in
+      absurd (cc (same, d))
+
 module _ (index : ObjId → Option Place) (numbers : Numbers) (at now : UnitsAt) (is : ArePools index numbers at) (n : ℕ) (u v : UnitView) (here : at n ≡ Some u) (change : (m : ℕ) → now m ≡ cond (eqb n m) (Some v) (at m))
     (owner : v.owner ≡ u.owner) (whole : IsWhole v) where
   -- a unit now is the new one, or one of before
@@ -101,18 +117,7 @@ module _ (index : ObjId → Option Place) (numbers : Numbers) (at now : UnitsAt)
   -- the rows of each owner are changed as those of the unit are
   module _ (o : ObjId) (x : ℕ) (stands : StandsAt u x o) (f : List CountedRow → List CountedRow) (turning : Turning f o) (rows_are : v.rows ≡ f u.rows) where
     elsewhere : (m : ℕ) (t : UnitView) → eqb n m ≡ false → at m ≡ Some t → row_named t.rows o ≡ None
-    elsewhere m t d e = go (row_named t.rows o) refl (place_in t o) refl where
-      go : (r : Option CountedRow) → row_named t.rows o ≡ r → (y : Option ℕ) → place_in t o ≡ y → r ≡ None
-      go None g y k = refl
-      go (Some c) g None k = let h = sym (ap is_some g) ∙ (is.whole m t e).placed o ∙ ap is_some k in absurd (cc h)
-      go (Some c) g (Some y) k =
-          let p = sym (is.indexed n u o x here stands) ∙ is.indexed m t o y e k in
-          let same : eqb n m ≡ true = (Decides-eqb n m).1 (ap (number_in n) p) in
-          absurd (cc (same, d))
-        where
-          number_in : ℕ → Option Place → ℕ
-          number_in j None = j
-          number_in j (Some q) = q.unit
+    elsewhere m t d e = stands_alone index numbers at is n u o x here stands m t d e
 
     rows_stay : (t : Option ℕ) → rows_by (unit_by now t) ≡ f (rows_by (unit_by at t))
     rows_stay None = sym (turning.away [] refl)
@@ -121,6 +126,9 @@ module _ (index : ObjId → Option Place) (numbers : Numbers) (at now : UnitsAt)
       go true k t e = rows_are ∙ ap (λ y. f (rows_by y)) (sym here ∙ ap at ((Decides-eqb n m).0 k))
       go false k None e = ap rows_by e ∙ sym (turning.away [] refl) ∙ sym (ap (λ y. f (rows_by y)) e)
       go false k (Some t) e = ap rows_by e ∙ sym (turning.away t.rows (elsewhere m t k e)) ∙ sym (ap (λ y. f (rows_by y)) e)
+
+    pub turned_shown : (rows : List CountedRow) → ((w : Owner) → rows_of w rows ≡ rows_by (unit_of numbers at w)) → (w : Owner) → rows_of w (f rows) ≡ rows_by (unit_of numbers now w)
+    turned_shown rows shown w = turning.turns w rows ∙ ap f (shown w) ∙ sym (rows_stay (numbers w))
 
     pub changed_rows : (rows new : List CountedRow) → ((w : Owner) → rows_of w rows ≡ rows_by (unit_of numbers at w)) → ((w : Owner) → rows_of w new ≡ rows_by (unit_of numbers now w)) → SameByOwner new (f rows)
     changed_rows rows new shown shown_now w = shown_now w ∙ rows_stay (numbers w) ∙ sym (turning.turns w rows ∙ ap f (shown w))

@@ -1,5 +1,5 @@
 -- A store's units by their numbers, and where each owner's unit and each row is found.
-use Rattle.std.specs.Prelude.{List, None, Option, Some, [], cond, min, ℕ, ◌++◌, ◌∷◌, ◌≡◌, ◌≢◌}
+use Rattle.std.specs.Prelude.{List, None, Option, Some, [], cond, eqb, min, ℕ, ◌++◌, ◌+◌, ◌∷◌, ◌≡◌, ◌≢◌, ◌≤◌}
 use Rattle.std.specs.Option.{option_map}
 use Rattle.std.specs.HashMap.{HashMap}
 use Rattle.std.specs.HashMap as hash
@@ -7,9 +7,11 @@ use Rattle.lf_base.specs.declared.ids.ObjId.{ObjId}
 use Rattle.lf_base.specs.declared.values.Owner.{Owner}
 use Rattle.lf_base.specs.declared.values.Owner.TheVariants.{Frozen, In, Local}
 use Rattle.lf_base.specs.Names.{same_name, same_owner}
-use Rattle.lf_graph.specs.StoredRows.{CountedRow}
+use Rattle.lf_graph.specs.Room.{room_for_row}
+use Rattle.lf_graph.specs.RowChanges.{moved_under, without_row}
+use Rattle.lf_graph.specs.StoredRows.{CountedRow, row_named}
 use Rattle.lf_poolstore.specs.declared.place.Place.{Place}
-use Rattle.lf_poolstore.specs.Units.{IsWhole, StandsAt, UnitView}
+use Rattle.lf_poolstore.specs.Units.{IsWhole, StandsAt, UnitView, place_in}
 
 -- the unit of each number, where there is one
 abbrev pub UnitsAt : Type 0
@@ -76,3 +78,19 @@ pub record AddsUnit (numbers next : Numbers) (at now : UnitsAt) (n : ℕ) (v : U
 pub record SamePools (numbers next : Numbers) (at now : UnitsAt) : Type 0 where
   pub number : (w : Owner) → next w ≡ numbers w
   pub unit : (m : ℕ) → now m ≡ at m
+
+-- a row of unit n goes last under unit k, with its fields and its count, and is that of number x there
+pub record MovesRow (at now : UnitsAt) (n k : ℕ) (u t : UnitView) (o : ObjId) (x : ℕ) : Type 0 where
+  pub left : UnitView
+  pub taken : UnitView
+  pub units : (m : ℕ) → now m ≡ cond (eqb k m) (Some taken) (cond (eqb n m) (Some left) (at m))
+  pub left_owner : left.owner ≡ u.owner
+  pub left_whole : IsWhole left
+  pub left_rows : left.rows ≡ without_row u.rows o
+  pub left_places : (q : ObjId) → place_in left q ≡ cond (same_name o q) None (place_in u q)
+  pub left_room : u.spare ≤ left.spare
+  pub taken_owner : taken.owner ≡ t.owner
+  pub taken_whole : IsWhole taken
+  pub taken_rows : taken.rows ≡ t.rows ++ moved_under t.owner (row_named u.rows o)
+  pub taken_places : (q : ObjId) → place_in taken q ≡ cond (same_name o q) (Some x) (place_in t q)
+  pub taken_room : t.spare ≤ taken.spare + room_for_row u.rows o
