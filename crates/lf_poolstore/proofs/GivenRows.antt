@@ -1,10 +1,14 @@
 -- A row that is given to an owner.
-use Rattle.std.proofs.Common.{◌≡◌, ℕ, false, cond, is_some, ◌+◌, ◌≤◌, List, [], ◌∷◌, ◌++◌, length, min, Option, Some, None, refl, ap, sym, ◌∙◌, subst, arith}
+use Rattle.std.proofs.Common.{List, None, Option, Some, [], ap, arith, cond, false, is_some, length, min, refl, subst, sym, true, ℕ, ◌++◌, ◌+◌, ◌∙◌, ◌∷◌, ◌≡◌, ◌≢◌, ◌≤◌}
 use Rattle.std.specs.Prelude.{eqb}
+use Rattle.std.proofs.lemmas.Bool.Decides.{Decides-eqb}
+use Rattle.std.proofs.lemmas.List.{append-nil}
+use Rattle.lf_graph.proofs.Stores.Reordered.{rows_append, same_owner_is, same_owner_itself}
+use Rattle.lf_poolstore.proofs.PoolRows.{some_same}
 use Rattle.slab.specs.Slab.{get}
 use Rattle.lf_base.specs.declared.ids.ObjId.{ObjId}
 use Rattle.lf_base.specs.declared.values.Owner.{Owner}
-use Rattle.lf_base.specs.Names.{same_name}
+use Rattle.lf_base.specs.Names.{same_name, same_owner}
 use Rattle.lf_graph.specs.RowChanges.{moved_last, moved_under, with_owner, without_row}
 use Rattle.lf_graph.specs.Room.{room_for_row}
 use Rattle.lf_graph.specs.StoredRows.{CountedRow, HasRow, SameByOwner, fields_by, row_named, rows_of}
@@ -79,3 +83,54 @@ given_needs p o q is h owner k number apart u t at_u at_t room = (
       let e : pool_spare p owner ≡ min (index_room p.index) t.spare = ap (λ n. spare_by (index_room p.index) (unit_by (get p.units) n)) number ∙ ap (spare_by (index_room p.index)) at_t in
       omega (arith, room, need, e)),
 )
+
+-- ---- a row that comes last under the owner that it has
+module _ (p : Pools) (o : ObjId) (q : Place) (is : q ≡ place_or (place_at p.index o)) (h : HasRow (pool_rows p) o) (owner : Owner) (number : numbers_in p owner ≡ Some q.unit)
+    (u v : UnitView) (at_u : get p.units q.unit ≡ Some u) (now : UnitsAt) (change : (m : ℕ) → now m ≡ cond (eqb q.unit m) (Some v) (get p.units m)) (rows_are : v.rows ≡ moved_last u.rows o u.owner) where
+  unit_owner : (w : Owner) → numbers_in p w ≡ Some q.unit → u.owner ≡ w
+  unit_owner w e = let n = numbered p w q.unit e in ap (λ (y : UnitView). y.owner) (same_unit u n.0 (sym at_u ∙ n.1)) ∙ n.2
+
+  not_under : (w : Owner) (s : Option ℕ) → numbers_in p w ≡ s → s ≢ Some q.unit → same_owner owner w ≡ false
+  not_under w s e d = elim (same_owner owner w) as (λ b. same_owner owner w ≡ b → b ≡ false) [
+    | true ↦ λ k. absurd (d (sym e ∙ ap (numbers_in p) (sym (same_owner_is owner w k)) ∙ number))
+    | false ↦ λ _. refl
+  ] refl
+
+  pub last_rows : (after : List CountedRow) → ((w : Owner) → rows_of w after ≡ rows_by (unit_of (numbers_in p) now w)) → SameByOwner after (moved_last (pool_rows p) o owner)
+  last_rows after shown_now w = go (row_named u.rows o) refl where
+    found : row_named (pool_rows p) o ≡ row_named u.rows o
+    found = place_found p o q is u at_u (place_stands p o q is h u at_u)
+
+    go : (d : Option CountedRow) → row_named u.rows o ≡ d → rows_of w after ≡ rows_of w (moved_last (pool_rows p) o owner)
+    go None e = let n = sym (ap is_some (found ∙ e)) ∙ h in absurd (cc n)
+    go (Some d) e =
+        shown_now w ∙ by_number (numbers_in p w) refl
+        ∙ sym (rows_append w (without_row (pool_rows p) o) (moved_under owner (row_named (pool_rows p) o))
+        ∙ (λ i. ((without_turns o).turns w (pool_rows p) ∙ ap (λ rs. without_row rs o) (shown p w)) i ++ rows_of w (moved_under owner ((found ∙ e) i))))
+      where
+        by_number : (s : Option ℕ) → numbers_in p w ≡ s → rows_by (unit_by now s) ≡ without_row (rows_by (unit_of (numbers_in p) (get p.units) w)) o ++ rows_of w (moved_under owner (Some d))
+        by_number s f = one s f ∙ sym (ap (λ k. without_row (rows_by (unit_by (get p.units) k)) o ++ rows_of w (moved_under owner (Some d))) f) where
+          away : (rs : List CountedRow) → row_named rs o ≡ None → same_owner owner w ≡ false → rs ≡ without_row rs o ++ rows_of w (moved_under owner (Some d))
+          away rs n k = sym ((λ i. (without_turns o).away rs n i ++ cond (k i) (with_owner owner d ∷ []) []) ∙ append-nil rs)
+
+          one : (t : Option ℕ) → numbers_in p w ≡ t → rows_by (unit_by now t) ≡ without_row (rows_by (unit_by (get p.units) t)) o ++ rows_of w (moved_under owner (Some d))
+          one None g = away [] refl (not_under w None g (λ z. cc))
+          one (Some m) g = ap rows_by (change m) ∙ (elim (eqb q.unit m) as (λ b. eqb q.unit m ≡ b → rows_by (cond b (Some v) (get p.units m)) ≡ without_row (rows_by (get p.units m)) o ++ rows_of w (moved_under owner (Some d))) [
+            | true ↦ λ k.
+                let same = (Decides-eqb q.unit m).0 k in
+                let here : get p.units m ≡ Some u = ap (get p.units) (sym same) ∙ at_u in
+                let own : u.owner ≡ w = unit_owner w (g ∙ ap Some (sym same)) in
+                let mine : u.owner ≡ owner = unit_owner owner number in
+                rows_are ∙ ap (λ t. without_row u.rows o ++ moved_under u.owner t) e ∙ ap (λ y. without_row u.rows o ++ with_owner y d ∷ []) mine
+                ∙ sym (ap (λ t. without_row (rows_by t) o ++ rows_of w (moved_under owner (Some d))) here
+                ∙ ap (λ b. without_row u.rows o ++ cond b (with_owner owner d ∷ []) []) (ap (λ y. same_owner y w) (sym mine ∙ own) ∙ same_owner_itself w))
+            | false ↦ λ k. others m k g (get p.units m) refl
+          ] refl) where
+            differ : (m : ℕ) → eqb q.unit m ≡ false → Some m ≡ Some q.unit → ⊥
+            differ m k z = let y : eqb q.unit m ≡ true = (Decides-eqb q.unit m).1 (sym (some_same m q.unit z)) in cc (y, k)
+
+            others : (m : ℕ) → eqb q.unit m ≡ false → numbers_in p w ≡ Some m → (t : Option UnitView) → get p.units m ≡ t → rows_by (get p.units m) ≡ without_row (rows_by (get p.units m)) o ++ rows_of w (moved_under owner (Some d))
+            others m k g None x = away (rows_by (get p.units m)) (ap (λ t. row_named (rows_by t) o) x) (not_under w (Some m) g (λ z. differ m k z))
+            others m k g (Some t) x =
+                away (rows_by (get p.units m)) (ap (λ y. row_named (rows_by y) o) x ∙ stands_alone (place_at p.index) (numbers_in p) (get p.units) p.kept q.unit u o q.row at_u (place_stands p o q is h u at_u) m t k x)
+                (not_under w (Some m) g (λ z. differ m k z))

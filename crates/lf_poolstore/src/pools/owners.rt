@@ -2,7 +2,7 @@
 
 ghost use Rattle.std.specs.Prelude.{◌≡◌, ◌≤◌, Some, eqb, false};
 ghost use Rattle.lf_base.specs.declared.ids.ObjId.{ObjId as Name};
-ghost use Rattle.lf_graph.specs.Room.{LowersAtMost, room_for_row};
+ghost use Rattle.lf_graph.specs.Room.{LowersAtMost, LowersNone, room_for_row};
 ghost use Rattle.lf_graph.specs.RowChanges.{moved_last, with_new_row};
 ghost use Rattle.lf_graph.specs.StoredRows.{HasRow, IsNewName, SameByOwner};
 ghost use Rattle.slab.specs.Slab.{get};
@@ -68,5 +68,38 @@ impl Pools {
     {
         let row = move_row(&mut self.units, place, number);
         self.index.put(o, Place { unit: number, row });
+    }
+
+    // Lets a row come last under the owner that it has.
+    fn keep_owner(&mut self, o: ObjId, place: Place, owner: Owner)
+        requires there { HasRow (pool_rows self.old) o }
+        requires place { place ≡ place_or (place_at self.old.index o) }
+        requires number { pool_number self.old owner ≡ Some place.unit }
+        ensures rows { SameByOwner (pool_rows self.new) (moved_last (pool_rows self.old) o owner) }
+        ensures room { LowersNone (pool_spare self.old) (pool_spare self.new) }
+    {
+        let Some(unit) = self.units.get_mut(place.unit as usize) else {
+            unreachable!()
+        };
+        unit.move_last(place.row);
+    }
+
+    /// Gives a row to an owner, under whom it comes last. It needs room of 1, and of 1 for
+    /// each of the row's fields, under the new owner.
+    pub fn set_owner(&mut self, o: ObjId, owner: Owner)
+        requires there { HasRow (pool_rows self.old) o }
+        requires room { room_for_row (pool_rows self.old) o ≤ pool_spare self.old owner }
+        ensures rows { SameByOwner (pool_rows self.new) (moved_last (pool_rows self.old) o owner) }
+        ensures room { LowersAtMost (pool_spare self.old) (pool_spare self.new) (room_for_row (pool_rows self.old) o) }
+    {
+        let place = self.index.get(o);
+        let Some(number) = self.owners.get(owner) else {
+            unreachable!()
+        };
+        if number == place.unit {
+            self.keep_owner(o, place, owner);
+            return;
+        }
+        self.give(o, place, owner, number);
     }
 }
