@@ -73,4 +73,11 @@ impl OwnerUnits {
             Err(_refused) => unreachable!(),
         }
     }
+
+    /// Takes the number of a region's unit out.
+    pub fn remove(&mut self, region: ObjId)
+        ensures { (w : OwnerOf) → number_of self.new.local self.new.frozen self.new.regions w ≡ (if same_owner (In region) w then None else number_of self.old.local self.old.frozen self.old.regions w) }
+    {
+        let _number = self.regions.remove(&region);
+    }
 }

@@ -1,9 +1,9 @@
 //! Units that come under the owners of the pools.
 
-ghost use Rattle.std.specs.Prelude.{◌≡◌, ◌≤◌, [], IfErr, IfOk, None, OnErr, OnOk, Some};
+ghost use Rattle.std.specs.Prelude.{◌≡◌, ◌≤◌, [], IfErr, IfNone, IfOk, IfSome, None, OnErr, OnOk, Some};
 ghost use Rattle.lf_base.specs.declared.values.Owner.TheVariants.{In};
 ghost use Rattle.lf_graph.specs.Room.{LowersNone};
-ghost use Rattle.lf_graph.specs.StoredRows.{SameByOwner};
+ghost use Rattle.lf_graph.specs.StoredRows.{SameByOwner, rows_of, rows_outside};
 ghost use Rattle.lf_poolstore.specs.Pools.{AddsUnit, SamePools, number_of};
 ghost use Rattle.lf_poolstore.specs.PoolViews.{pool_number, pool_rows, pool_spare};
 ghost use Rattle.slab.specs.Slab.{Updates, get};
@@ -105,5 +105,19 @@ impl Pools {
             unreachable!()
         };
         unit.reserve(cells)
+    }
+
+    // Takes a region's unit out, where it has one.
+    fn take_unit(&mut self, region: ObjId) -> Option<Unit>
+        ensures owner { IfSome result (λ u. u.owner ≡ In region) }
+        ensures unit { IfSome result (λ u. u.rows ≡ rows_of (In region) (pool_rows self.old)) }
+        ensures none { IfNone result (rows_of (In region) (pool_rows self.old) ≡ []) }
+        ensures rows { SameByOwner (pool_rows self.new) (rows_outside (In region) (pool_rows self.old)) }
+    {
+        let Some(number) = self.owners.get(Owner::In(region)) else {
+            return None;
+        };
+        self.owners.remove(region);
+        self.units.try_remove(number as usize)
     }
 }
