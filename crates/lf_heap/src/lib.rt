@@ -1,7 +1,8 @@
 //! One behaviour's domain: its objects and regions, and its slots, on which a script
 //! works.
 //!
-//! It stands on `lf_barrier` for writes, on `lf_settle` for dropping, on `lf_domain`,
+//! It stands on `lf_barrier` for writes, on `lf_settle` for dropping, on `lf_transfer` for
+//! merging, dissolving and freezing, on `lf_frozen` for the frozen rows, on `lf_domain`,
 //! `lf_graph` and `lf_regions` for stores and tables that count the edges of a state, and
 //! on `lf_base` and `lf_laws`, which define a state without counts and say what each call
 //! makes of it. It works over any store.

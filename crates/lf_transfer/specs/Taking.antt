@@ -1,5 +1,5 @@
 -- What a freeze takes, found row by row.
-use Rattle.std.specs.Prelude.{List, None, Option, Some, [], cond, map, true, ◌++◌, ◌≡◌, ◌⊎◌}
+use Rattle.std.specs.Prelude.{Bool, List, None, Option, Some, [], cond, is_some, map, true, ◌++◌, ◌≡◌, ◌⊎◌}
 use Rattle.std.specs.List.{list_any}
 use Rattle.lf_base.specs.declared.ids.ObjId.{ObjId}
 use Rattle.lf_base.specs.declared.values.Owner.{Owner}
@@ -12,7 +12,7 @@ use Rattle.lf_base.specs.Sets.{Differ, Member}
 use Rattle.lf_barrier.specs.Surveys.{names_with}
 use Rattle.lf_frozen.specs.declared.row.FrozenRow.{FrozenRow}
 use Rattle.lf_graph.specs.RowOrder.{names_under}
-use Rattle.lf_graph.specs.StoredRows.{CountedRow, HasRow, fields_at, owner_at}
+use Rattle.lf_graph.specs.StoredRows.{CountedRow, HasRow, fields_at, owner_at, row_named}
 use Rattle.lf_transfer.specs.declared.taking.Taking.{Taking}
 
 -- the region of a row of that owner
@@ -38,10 +38,14 @@ brought rows p = field_targets (fields_at rows p) ++ owned_rows rows p (region_o
 abbrev pub frozen_of : List CountedRow → ObjId → FrozenRow
 frozen_of rows o = record { id = o; fields = fields_at rows o }
 
--- those of the objects that have rows were taken: put last, each where it wasn't there
-pub record Takes (rows : List CountedRow) (os before after : List ObjId) : Type 0 where
-  pub covered : (t : ObjId) → Member t os → HasRow rows t → has_name after t ≡ true
-  pub only : (t : ObjId) → has_name after t ≡ true → (has_name before t ≡ true) ⊎ (Member t os × HasRow rows t)
+-- the store has a row of that name
+abbrev pub is_stored : List CountedRow → ObjId → Bool
+is_stored rows o = is_some (row_named rows o)
+
+-- those of the objects that pass the test were taken: put last, each where it wasn't there
+pub record Takes (is_wanted : ObjId → Bool) (os before after : List ObjId) : Type 0 where
+  pub covered : (t : ObjId) → Member t os → is_wanted t ≡ true → has_name after t ≡ true
+  pub only : (t : ObjId) → has_name after t ≡ true → (has_name before t ≡ true) ⊎ (Member t os × (is_wanted t ≡ true))
   pub differ : Differ same_name before → Differ same_name after
   pub more : List ObjId
   pub grows : after ≡ before ++ more

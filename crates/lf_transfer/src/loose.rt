@@ -1,5 +1,7 @@
 ghost use Rattle.std.specs.Prelude.{◌≡◌, ◌+◌, ◌≤◌, ◌∷◌, [], MatchOption, OnErr, OnOk};
 
+use crate::name_list::NameList;
+use indexmap::IndexSet;
 use lf_base::{ObjId, OutOfMemory};
 use std::alloc::Global;
 use std::marker::Model;
@@ -7,18 +9,25 @@ use std::marker::Model;
 /// Names of what was left without justification, with room for more, `spare`. Contracts
 /// see the names, the last one first, and the room. Only `reserve` takes memory. No call
 /// lowers the sum of the room and the list's length.
+///
+/// Beside the list there is a set that is empty between calls, and can hold as many names:
+/// a call that closes a region puts the regions below it there.
 #[derive(Drop)]
 pub struct Loose {
-    items: Vec<ObjId>,
+    pub(crate) list: NameList,
+    pub(crate) below: IndexSet<ObjId>,
 }
 
 impl Model for Loose {
-    ghost use Rattle.std.specs.Prelude.{◌-◌, reverse, vec_capacity, vec_len};
-    ghost use Rattle.lf_transfer.specs.LooseNames.{LooseNames};
+    ghost use Rattle.std.specs.Prelude.{◌+◌, ◌-◌, length, min};
+    ghost use Rattle.indexmap.specs.IndexSet.{spare as set_spare};
+    ghost use Rattle.lf_transfer.specs.LooseNames.{IsSetAtRest, LooseNames};
 
     ghost Value = { LooseNames };
 
-    ghost view = { λ loose. record { names = reverse loose.items.items; spare = vec_capacity loose.items - vec_len loose.items } };
+    ghost view = { λ loose. record { names = loose.list.names; spare = min (loose.list.spare + length loose.list.names) (set_spare loose.below) - length loose.list.names } };
+
+    ghost invariant = { λ loose. IsSetAtRest loose.list.names loose.below };
 }
 
 impl Loose {
@@ -27,7 +36,8 @@ impl Loose {
         ensures { result ≡ record { names = []; spare = 0 } }
     {
         Loose {
-            items: Vec::new(alloc),
+            list: NameList::new(alloc),
+            below: IndexSet::new(alloc),
         }
     }
 
@@ -38,7 +48,8 @@ impl Loose {
         ensures enough { OnOk result (more ≤ self.new.spare) }
         ensures room { self.old.spare ≤ self.new.spare }
     {
-        self.items.reserve(more)?;
+        self.list.reserve(more)?;
+        self.below.reserve(self.list.capacity())?;
         Ok(())
     }
 
@@ -48,7 +59,7 @@ impl Loose {
             (λ last. self.old.names ≡ last ∷ self.new.names) }
         ensures room { MatchOption result (self.new.spare ≡ self.old.spare) (λ _. self.new.spare ≡ self.old.spare + 1) }
     {
-        self.items.pop()
+        self.list.pop()
     }
 
     /// Adds a name. It needs room of 1.
@@ -57,6 +68,6 @@ impl Loose {
         ensures names { self.new.names ≡ name ∷ self.old.names }
         ensures room { self.new.spare + 1 ≡ self.old.spare }
     {
-        self.items.push_reserved(name);
+        self.list.push(name);
     }
 }

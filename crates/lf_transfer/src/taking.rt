@@ -13,7 +13,7 @@ ghost use Rattle.lf_domain.specs.Counts.{IsDomain};
 ghost use Rattle.lf_graph.specs.RowOrder.{names_under};
 ghost use Rattle.lf_graph.specs.StoredRows.{HasRow, fields_at, owner_at};
 ghost use Rattle.lf_regions.specs.declared.region.Region.{Region};
-ghost use Rattle.lf_transfer.specs.Taking.{IsTaking, Takes, brought, frozen_of, owned_rows, region_of, region_with};
+ghost use Rattle.lf_transfer.specs.Taking.{IsTaking, Takes, brought, frozen_of, is_stored, owned_rows, region_of, region_with};
 
 use crate::names::{add, name_at};
 use indexmap::IndexSet;
@@ -80,7 +80,7 @@ impl Taking {
     ) -> Result<(), OutOfMemory>
         requires domain { (regions : List Region) × ((s : State) × IsDomain (S.rows store.now) regions s) }
         requires there { HasRow (S.rows store.now) p }
-        ensures taken { OnOk result (Takes (S.rows store.now) (brought (S.rows store.now) p) self.old.taken.keys self.new.taken.keys) }
+        ensures taken { OnOk result (Takes (is_stored (S.rows store.now)) (brought (S.rows store.now) p) self.old.taken.keys self.new.taken.keys) }
         ensures regions { OnOk result (self.new.regions.keys
             ≡ region_with self.old.regions.keys (region_of (owner_at (S.rows store.now) p))) }
         ensures rows { OnOk result (self.new.rows ≡ self.old.rows ++ frozen_of (S.rows store.now) p ∷ []) }
@@ -135,7 +135,7 @@ fn take_region<S: Store, L: Ledger>(
     steps: &mut Steps<L>,
 ) -> Result<(), OutOfMemory>
     requires domain { (regions : List Region) × ((s : State) × IsDomain (S.rows store.now) regions s) }
-    ensures { OnOk result (Takes (S.rows store.now) (owned_rows (S.rows store.now) p region) taken.old.keys taken.new.keys) }
+    ensures { OnOk result (Takes (is_stored (S.rows store.now)) (owned_rows (S.rows store.now) p region) taken.old.keys taken.new.keys) }
 {
     match region {
         Some(r) if r.is_same(p) => take_rows(store, taken, r, steps),
@@ -151,7 +151,7 @@ fn take_rows<S: Store, L: Ledger>(
     steps: &mut Steps<L>,
 ) -> Result<(), OutOfMemory>
     requires domain { (regions : List Region) × ((s : State) × IsDomain (S.rows store.now) regions s) }
-    ensures { OnOk result (Takes (S.rows store.now) (names_under (In r) (S.rows store.now)) taken.old.keys taken.new.keys) }
+    ensures { OnOk result (Takes (is_stored (S.rows store.now)) (names_under (In r) (S.rows store.now)) taken.old.keys taken.new.keys) }
 {
     let mut next = store.first(Owner::In(r), steps);
     while let Some(p) = next {
@@ -171,7 +171,7 @@ fn take_fields<S: Store, L: Ledger>(
 ) -> Result<Fields, OutOfMemory>
     requires domain { (regions : List Region) × ((s : State) × IsDomain (S.rows store.now) regions s) }
     requires there { HasRow (S.rows store.now) p }
-    ensures taken { OnOk result (Takes (S.rows store.now) (field_targets (fields_at (S.rows store.now) p)) taken.old.keys taken.new.keys) }
+    ensures taken { OnOk result (Takes (is_stored (S.rows store.now)) (field_targets (fields_at (S.rows store.now) p)) taken.old.keys taken.new.keys) }
     ensures fields { IfOk result (λ fields. fields ≡ fields_at (S.rows store.now) p) }
 {
     let mut fields = Fields::new(alloc);
@@ -205,7 +205,7 @@ fn take_value<S: Store, L: Ledger>(
     v: Value,
     steps: &mut Steps<L>,
 ) -> Result<(), OutOfMemory>
-    ensures { OnOk result (Takes (S.rows store.now) (targets_of_value v) taken.old.keys taken.new.keys) }
+    ensures { OnOk result (Takes (is_stored (S.rows store.now)) (targets_of_value v) taken.old.keys taken.new.keys) }
 {
     match v.object() {
         Some(o) => take_object(store, taken, o, steps),
@@ -220,7 +220,7 @@ fn take_object<S: Store, L: Ledger>(
     o: ObjId,
     steps: &mut Steps<L>,
 ) -> Result<(), OutOfMemory>
-    ensures { OnOk result (Takes (S.rows store.now) (o ∷ []) taken.old.keys taken.new.keys) }
+    ensures { OnOk result (Takes (is_stored (S.rows store.now)) (o ∷ []) taken.old.keys taken.new.keys) }
 {
     match store.owner(o, steps) {
         Some(_owner) => {

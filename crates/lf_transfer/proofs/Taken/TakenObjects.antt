@@ -1,5 +1,5 @@
 -- Objects that are taken one after the other: those of a row's fields, and those of a region.
-use Rattle.std.proofs.Common.{List, None, Option, Some, [], ap, false, inl, inr, is_some, refl, subst, sym, true, ℕ, ◌+◌, ◌++◌, ◌||◌, ◌∙◌, ◌∷◌, ◌≡◌, ◌≤◌, ◌⊎◌, length, cond}
+use Rattle.std.proofs.Common.{Bool, List, None, Option, Some, [], ap, false, inl, inr, is_some, refl, subst, sym, true, ℕ, ◌+◌, ◌++◌, ◌||◌, ◌∙◌, ◌∷◌, ◌≡◌, ◌≤◌, ◌⊎◌, length, cond}
 use Rattle.std.proofs.lemmas.Bool.{or_cases}
 use Rattle.std.proofs.lemmas.List.{append-nil, append_assoc}
 use Rattle.std.proofs.Math.Bool.{or-true}
@@ -20,10 +20,10 @@ use Rattle.lf_barrier.specs.Surveys.{names_with}
 use Rattle.lf_barrier.proofs.MovingEdges.FieldLoops.{FieldWalk, walk_begins, walk_over}
 use Rattle.lf_barrier.proofs.Surveys.SurveySteps.{grows_if, has_if, targets_more}
 use Rattle.lf_graph.specs.RowOrder.{names_under}
-use Rattle.lf_graph.specs.StoredRows.{CountedRow, HasRow, NamesDiffer, first_name, name_after, owner_by, plain, rows_beside, rows_of}
+use Rattle.lf_graph.specs.StoredRows.{CountedRow, NamesDiffer, first_name, name_after, owner_by, plain, rows_beside, rows_of}
 use Rattle.lf_graph.proofs.Stores.FieldWalks.{FieldKeysDiffer}
 use Rattle.lf_laws.proofs.Rows.RowsByName.{has_append}
-use Rattle.lf_transfer.specs.Taking.{Takes}
+use Rattle.lf_transfer.specs.Taking.{Takes, is_stored}
 use Rattle.lf_transfer.proofs.Walks.References.{field_walk_on, this_field}
 use Rattle.lf_transfer.proofs.Walks.RegionWalk.{RegionWalk, region_begins, region_goes_on, region_over, this_row}
 
@@ -46,12 +46,12 @@ names_more : (cs : List CountedRow) (c : CountedRow) → names (plain (cs ++ c �
 names_more [] c = refl
 names_more (x ∷ xs) c = ap (λ l. (x.row).name ∷ l) (names_more xs c)
 
-module _ (rows : List CountedRow) where
-  pub takes_none : (before : List ObjId) → Takes rows [] before before
+module _ (is_wanted : ObjId → Bool) where
+  pub takes_none : (before : List ObjId) → Takes is_wanted [] before before
   takes_none before = record { covered = λ t m h. absurd m; only = λ t h. inl h; differ = λ d. d; more = []; grows = sym (append-nil before) }
 
-  -- one object, which has a row
-  pub takes_one : (o : ObjId) (before after : List ObjId) → HasRow rows o → after ≡ names_with before o → Takes rows (o ∷ []) before after
+  -- one object, which passes
+  pub takes_one : (o : ObjId) (before after : List ObjId) → is_wanted o ≡ true → after ≡ names_with before o → Takes is_wanted (o ∷ []) before after
   takes_one o before after there is =
       let has : (t : ObjId) → has_name after t ≡ (has_name before t || same_name o t) = λ t. ap (λ l. has_name l t) is ∙ has_if true before o t in
       let g = grows_if true before o in
@@ -60,33 +60,33 @@ module _ (rows : List CountedRow) where
           | inl e ↦ has t ∙ ap (λ x. has_name before t || x) (ap (same_name o) (sym e) ∙ same_name_itself o) ∙ or-true (has_name before t)
           | inr n ↦ absurd n
         ];
-        only = λ t h. elim (or_cases (has_name before t) (same_name o t) (sym (has t) ∙ h)) as (λ _. (has_name before t ≡ true) ⊎ (Member t (o ∷ []) × HasRow rows t)) [
+        only = λ t h. elim (or_cases (has_name before t) (same_name o t) (sym (has t) ∙ h)) as (λ _. (has_name before t ≡ true) ⊎ (Member t (o ∷ []) × (is_wanted t ≡ true))) [
           | inl k ↦ inl k
-          | inr k ↦ let same : o ≡ t = same_name_is o t k in inr (inl same, subst (HasRow rows) same there)
+          | inr k ↦ let same : o ≡ t = same_name_is o t k in inr (inl same, ap is_wanted (sym same) ∙ there)
         ];
         differ = λ d. subst (Differ same_name) (sym is) (differ_with before o d);
         more = g.0;
         grows = is ∙ g.1;
       }
 
-  -- one object, which has none
-  pub takes_absent : (o : ObjId) (before : List ObjId) → (HasRow rows o → ⊥) → Takes rows (o ∷ []) before before
+  -- one object, which doesn't pass
+  pub takes_absent : (o : ObjId) (before : List ObjId) → (is_wanted o ≡ true → ⊥) → Takes is_wanted (o ∷ []) before before
   takes_absent o before none = record {
-    covered = λ t m h. elim m as (λ _. has_name before t ≡ true) [ inl e ↦ absurd (none (subst (HasRow rows) (sym e) h)) | inr n ↦ absurd n ];
+    covered = λ t m h. elim m as (λ _. has_name before t ≡ true) [ inl e ↦ absurd (none (ap is_wanted e ∙ h)) | inr n ↦ absurd n ];
     only = λ t h. inl h;
     differ = λ d. d;
     more = [];
     grows = sym (append-nil before);
   }
 
-  pub takes_on : (os ps a b c : List ObjId) → Takes rows os a b → Takes rows ps b c → Takes rows (os ++ ps) a c
+  pub takes_on : (os ps a b c : List ObjId) → Takes is_wanted os a b → Takes is_wanted ps b c → Takes is_wanted (os ++ ps) a c
   takes_on os ps a b c e f = record {
     covered = λ t m h. elim (Member_of_append t os ps m) as (λ _. has_name c t ≡ true) [
       | inl n ↦ ap (λ l. has_name l t) f.grows ∙ has_append b f.more t ∙ ap (λ x. x || has_name f.more t) (e.covered t n h)
       | inr n ↦ f.covered t n h
     ];
-    only = λ t h. elim (f.only t h) as (λ _. (has_name a t ≡ true) ⊎ (Member t (os ++ ps) × HasRow rows t)) [
-      | inl n ↦ elim (e.only t n) as (λ _. (has_name a t ≡ true) ⊎ (Member t (os ++ ps) × HasRow rows t)) [
+    only = λ t h. elim (f.only t h) as (λ _. (has_name a t ≡ true) ⊎ (Member t (os ++ ps) × (is_wanted t ≡ true))) [
+      | inl n ↦ elim (e.only t n) as (λ _. (has_name a t ≡ true) ⊎ (Member t (os ++ ps) × (is_wanted t ≡ true))) [
         | inl k ↦ inl k
         | inr k ↦ inr (Member_left t os ps k.0, k.1)
       ]
@@ -101,19 +101,19 @@ module _ (rows : List CountedRow) where
   pub record FieldsTaken (all : List (Key × Value)) (last : Option Key) (turn : ℕ) (fields : List (Key × Value)) (before now : List ObjId) : Type 0 where
     pub rest : List (Key × Value)
     pub walk : FieldWalk all rest last turn
-    pub takes : Takes rows (field_targets walk.so_far) before now
+    pub takes : Takes is_wanted (field_targets walk.so_far) before now
     pub copied : fields ≡ walk.so_far
 
   pub fields_begin : (all fields : List (Key × Value)) (before : List ObjId) → fields ≡ [] → FieldsTaken all None 0 fields before before
   fields_begin all fields before none = record { rest = all; walk = walk_begins all; takes = takes_none before; copied = none }
 
   module _ (all : List (Key × Value)) (last : Option Key) (turn : ℕ) (fields : List (Key × Value)) (before now : List ObjId) (g : FieldsTaken all last turn fields before now) where
-    pub fields_on : FieldKeysDiffer all → (k : Key) (v : Value) → Some (k, v) ≡ field_after all last → (after : List ObjId) → Takes rows (targets_of_value v) now after
+    pub fields_on : FieldKeysDiffer all → (k : Key) (v : Value) → Some (k, v) ≡ field_after all last → (after : List ObjId) → Takes is_wanted (targets_of_value v) now after
         → (more : List (Key × Value)) → more ≡ fields ++ (k, v) ∷ [] → FieldsTaken all (Some k) (turn + 1) more before after
     fields_on d k v found after e more is = record {
       rest = (this_field all g.rest last turn g.walk k v found).0;
       walk = field_walk_on all g.rest last turn g.walk k v found d;
-      takes = subst (λ l. Takes rows l before after) (sym (targets_more (g.walk).so_far (k, v))) (takes_on (field_targets (g.walk).so_far) (targets_of_value v) before now after g.takes e);
+      takes = subst (λ l. Takes is_wanted l before after) (sym (targets_more (g.walk).so_far (k, v))) (takes_on (field_targets (g.walk).so_far) (targets_of_value v) before now after g.takes e);
       copied = is ∙ ap (λ l. l ++ (k, v) ∷ []) g.copied;
     }
 
@@ -122,31 +122,32 @@ module _ (rows : List CountedRow) where
         let none : g.rest ≡ [] = walk_over all g.rest last turn g.walk most in
         (g.walk).split ∙ ap (λ l. (g.walk).so_far ++ l) none ∙ append-nil (g.walk).so_far
 
-    pub fields_taken : length all ≤ turn → Takes rows (field_targets all) before now
-    fields_taken most = subst (λ l. Takes rows (field_targets l) before now) (sym (all_so_far most)) g.takes
+    pub fields_taken : length all ≤ turn → Takes is_wanted (field_targets all) before now
+    fields_taken most = subst (λ l. Takes is_wanted (field_targets l) before now) (sym (all_so_far most)) g.takes
 
     pub fields_copied : length all ≤ turn → fields ≡ all
     fields_copied most = g.copied ∙ sym (all_so_far most)
 
-  -- ---- the rows of a region
+-- ---- the rows of a region
+module _ (rows : List CountedRow) where
   pub record RowsTaken (r : ObjId) (next : Option ObjId) (before now : List ObjId) : Type 0 where
     pub walk : RegionWalk rows r next
-    pub takes : Takes rows (names (plain walk.done)) before now
+    pub takes : Takes (is_stored rows) (names (plain walk.done)) before now
 
   module _ (r : ObjId) (next : Option ObjId) where
     pub rows_begin : (before : List ObjId) → next ≡ first_name (rows_of (In r) rows) → RowsTaken r next before before
-    rows_begin before e = record { walk = region_begins rows r next e; takes = takes_none before }
+    rows_begin before e = record { walk = region_begins rows r next e; takes = takes_none (is_stored rows) before }
 
     module _ (before now : List ObjId) (g : RowsTaken r next before now) where
-      pub rows_taken : next ≡ None → Takes rows (names_under (In r) rows) before now
-      rows_taken none = subst (λ l. Takes rows (names (plain l)) before now) (region_over rows r next g.walk none) g.takes
+      pub rows_taken : next ≡ None → Takes (is_stored rows) (names_under (In r) rows) before now
+      rows_taken none = subst (λ l. Takes (is_stored rows) (names (plain l)) before now) (region_over rows r next g.walk none) g.takes
 
       pub rows_on : (differ : NamesDiffer rows) (p : ObjId) (is : next ≡ Some p) → (then_next : Option ObjId) → then_next ≡ name_after (rows_beside rows p) p
-          → (after : List ObjId) → Takes rows (p ∷ []) now after → RowsTaken r then_next before after
+          → (after : List ObjId) → Takes (is_stored rows) (p ∷ []) now after → RowsTaken r then_next before after
       rows_on differ p is then_next then_is after e =
           let t = this_row rows r differ next g.walk p is in
           record {
             walk = region_goes_on rows r differ next g.walk p is then_next then_is;
-            takes = subst (λ l. Takes rows l before after) (ap (λ n. names (plain (g.walk).done) ++ n ∷ []) (sym t.name) ∙ sym (names_more (g.walk).done t.row))
-                (takes_on (names (plain (g.walk).done)) (p ∷ []) before now after g.takes e);
+            takes = subst (λ l. Takes (is_stored rows) l before after) (ap (λ n. names (plain (g.walk).done) ++ n ∷ []) (sym t.name) ∙ sym (names_more (g.walk).done t.row))
+                (takes_on (is_stored rows) (names (plain (g.walk).done)) (p ∷ []) before now after g.takes e);
           }

@@ -35,7 +35,7 @@ use Rattle.lf_laws.proofs.Rows.OwnerTests.{in_region}
 use Rattle.lf_laws.proofs.Rows.RowsByName.{Member_has_name, at_mem, has_append, has_name_Member, mem_has, owner_mem, row_there}
 use Rattle.lf_regions.specs.declared.region.Region.{Region}
 use Rattle.lf_transfer.specs.declared.taking.Taking.{Taking}
-use Rattle.lf_transfer.specs.Taking.{IsTaking, Takes, brought, frozen_of, owned_rows, region_of, region_with}
+use Rattle.lf_transfer.specs.Taking.{IsTaking, Takes, brought, frozen_of, is_stored, owned_rows, region_of, region_with}
 use Rattle.lf_transfer.proofs.Taken.TakenObjects.{differ_with}
 use Rattle.lf_barrier.proofs.Surveys.SurveySteps.{has_if}
 
@@ -202,7 +202,7 @@ module _ (rows : List CountedRow) (v : Value) where
     pub lies : (q : ObjId) → has_name regions q ≡ list_any (λ o. is_in q (owner_at rows o)) done
     pub copied : frozen ≡ map (frozen_of rows) done
 
-  pub finding_begins : (none taken regions : List ObjId) (frozen : List FrozenRow) → none ≡ [] → regions ≡ [] → frozen ≡ [] → Takes rows (targets_of_value v) none taken → Finding 0 taken regions frozen
+  pub finding_begins : (none taken regions : List ObjId) (frozen : List FrozenRow) → none ≡ [] → regions ≡ [] → frozen ≡ [] → Takes (is_stored rows) (targets_of_value v) none taken → Finding 0 taken regions frozen
   finding_begins none taken regions frozen e f h t =
       let only : (o : ObjId) → has_name taken o ≡ true → Member o (targets_of_value v) × HasRow rows o = λ o k.
       elim (t.only o k) as (λ _. Member o (targets_of_value v) × HasRow rows o) [
@@ -238,7 +238,7 @@ module _ (rows : List CountedRow) (v : Value) where
       pub row_is_there : HasRow rows p
       row_is_there = g.there p is_taken
 
-      pub finding_on : (after regions_after : List ObjId) (frozen_after : List FrozenRow) → Takes rows (brought rows p) taken after → regions_after ≡ region_with regions (region_of (owner_at rows p))
+      pub finding_on : (after regions_after : List ObjId) (frozen_after : List FrozenRow) → Takes (is_stored rows) (brought rows p) taken after → regions_after ≡ region_with regions (region_of (owner_at rows p))
           → frozen_after ≡ frozen ++ frozen_of rows p ∷ [] → Finding (i + 1) after regions_after frozen_after
       finding_on after regions_after frozen_after t e f =
           let kept : (o : ObjId) → has_name taken o ≡ true → has_name after o ≡ true = λ o h. ap (λ l. has_name l o) t.grows ∙ has_append taken t.more o ∙ ap (λ b. b || has_name t.more o) h in
