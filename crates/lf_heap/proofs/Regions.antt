@@ -3,3 +3,4 @@ pub mod BridgeValues
 pub mod MergedParts
 pub mod DissolvedParts
 pub mod FrozenParts
+pub mod ClosedParts

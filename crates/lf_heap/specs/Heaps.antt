@@ -13,6 +13,7 @@ use Rattle.lf_heap.specs.declared.frozen.FrozenParts.{FrozenParts}
 use Rattle.lf_regions.specs.declared.region.Region.{Region}
 use Rattle.lf_settle.specs.SettledStates.{IsCounted}
 use Rattle.lf_settle.specs.WorkLists.{WorkList}
+use Rattle.lf_transfer.specs.LooseNames.{LooseNames}
 
 -- what contracts see of a heap: its state, and for how many more slots it has room
 pub record Domain : Type 0 where
@@ -41,13 +42,16 @@ pub record HasParts (rows : List CountedRow) (regions : List Region) (most : ℕ
   pub few : most < 2 ^ 62
   pub slots : length s.slots ≤ 2 ^ 62
 
--- between two calls all rows stay, which are few, no suspect is left, and there is room for two suspects for each row and four more
-pub record IsAtRest (s : State) (work : WorkList) (most : ℕ) : Type 0 where
+-- between two calls all rows stay, which are few, no suspect is left, and there is room for three suspects for each row and four
+-- more: two of each row for settling, and one where a close lets it loose. The list that a close fills is empty, with room for each row
+pub record IsAtRest (s : State) (work : WorkList) (loose : LooseNames) (most : ℕ) : Type 0 where
   pub settled : Settled s
   pub none_left : work.suspects ≡ []
+  pub none_loose : loose.names ≡ []
   pub rows : length s.rows ≤ most
   pub few : most ≤ 2 ^ 61
-  pub room : 2 * most + 4 ≤ work.spare
+  pub room : 3 * most + 4 ≤ work.spare
+  pub listed : most ≤ loose.spare
 
 -- slots and room for slots are as many as before
 abbrev pub SameRoom : Domain → Domain → Type 0

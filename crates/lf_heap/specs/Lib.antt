@@ -2,3 +2,4 @@ pub mod Heaps
 pub mod Accesses
 pub mod Openness
 pub mod Following
+pub mod Suspecting

@@ -3,7 +3,7 @@
 ghost use Rattle.std.specs.Prelude.{◌≡◌, ◌+◌, ◌*◌, ◌-◌, ◌^◌, ◌<◌, ◌≤◌, [], IfOk, OnErr, OnOk, length, map};
 ghost use Rattle.lf_base.specs.declared.values.Value.{Value as Item};
 ghost use Rattle.lf_base.specs.Asking.{GivesAnswer, asked};
-ghost use Rattle.lf_base.specs.HeapCalls.{Gives, GivesOrWants, dissolve_change, frozen, lift_change, load_change, merge_change};
+ghost use Rattle.lf_base.specs.HeapCalls.{Gives, GivesOrWants, close_change, dissolve_change, frozen, lift_change, load_change, merge_change};
 ghost use Rattle.lf_base.specs.HeapCalls.{new_object_change, new_region_change};
 ghost use Rattle.lf_base.specs.HeapCalls.{read_change, take_change, unset_change, write_change};
 ghost use Rattle.lf_base.specs.Operands.{operand, popped, pushed, put_down, slot_below};
@@ -19,6 +19,7 @@ use lf_base::{Answer, Fault, HeapFail, OutOfMemory, Question, Steps, Value};
 use lf_frozen::FrozenMap;
 use lf_graph::Store;
 use lf_settle::Work;
+use lf_transfer::Loose;
 use std::alloc::Global;
 use std::marker::Model;
 use std::sync::ledger::Ledger;
@@ -28,13 +29,15 @@ use std::sync::ledger::Ledger;
 /// calls the state is well-formed, its counts are right, and all its rows stay.
 ///
 /// A call that takes a reference away ends with settling: at most 64 calls on the store,
-/// and 64 for each suspect, of which it notes four at most, and for each row and field that
-/// is dropped.
+/// and 64 for each suspect and for each row and field that is dropped. It notes four suspects
+/// at most; a freeze notes each region that it leaves bare, and a close each row that it lets
+/// loose.
 #[derive(Drop)]
 pub struct Heap<S: Store> {
     parts: Parts<S>,
-    // Empty between two calls.
+    // Both are empty between two calls.
     work: Work,
+    loose: Loose,
     // No fewer than the rows.
     rows: usize,
 }
@@ -46,23 +49,27 @@ impl<S: Store> Model for Heap<S> {
 
     ghost view = { λ h. h.parts };
 
-    ghost invariant = { λ h. IsAtRest h.parts.state h.work h.rows };
+    ghost invariant = { λ h. IsAtRest h.parts.state h.work h.loose h.rows };
 }
 
-// Makes room for the suspects that there may be with one row more, and gives that number
-// of rows.
-fn watch_one_more(work: &mut Work, rows: usize) -> Result<usize, OutOfMemory>
+// Makes room for the suspects that there may be with one row more, and for the rows that a
+// close may let loose then, and gives that number of rows.
+fn watch_one_more(work: &mut Work, loose: &mut Loose, rows: usize) -> Result<usize, OutOfMemory>
     ensures suspects { work.new.suspects ≡ work.old.suspects }
+    ensures names { loose.new.names ≡ loose.old.names }
     ensures rows { IfOk result (λ more. more ≡ rows + 1) }
     ensures few { IfOk result (λ more. more ≤ 2 ^ 61) }
-    ensures enough { IfOk result (λ more. 2 * more + 4 ≤ work.new.spare) }
+    ensures enough { IfOk result (λ more. 3 * more + 4 ≤ work.new.spare) }
+    ensures listed { IfOk result (λ more. more ≤ loose.new.spare) }
     ensures room { work.old.spare ≤ work.new.spare }
+    ensures list { loose.old.spare ≤ loose.new.spare }
 {
     if rows >= MOST_ROWS {
         return Err(OutOfMemory);
     }
     let more = rows + 1;
     watch_rows(work, more, 0)?;
+    loose.reserve(more)?;
     Ok(more)
 }
 
@@ -80,6 +87,7 @@ impl<S: Store> Heap<S> {
         Ok(Heap {
             parts,
             work,
+            loose: Loose::new(alloc),
             rows: 0,
         })
     }
@@ -228,7 +236,7 @@ impl<S: Store> Heap<S> {
         ensures slots { OnOk result (length self.new.state.slots ≡ length self.old.state.slots + 1) }
         ensures room { SameRoom self.old self.new }
     {
-        let rows = watch_one_more(&mut self.work, self.rows)?;
+        let rows = watch_one_more(&mut self.work, &mut self.loose, self.rows)?;
         let o = self.parts.add_object()?;
         self.rows = rows;
         self.parts.add_slot(Some(Value::Obj(o)));
@@ -243,7 +251,7 @@ impl<S: Store> Heap<S> {
         ensures slots { OnOk result (length self.new.state.slots ≡ length self.old.state.slots + 1) }
         ensures room { SameRoom self.old self.new }
     {
-        let rows = watch_one_more(&mut self.work, self.rows)?;
+        let rows = watch_one_more(&mut self.work, &mut self.loose, self.rows)?;
         let o = self.parts.add_region()?;
         self.rows = rows;
         self.parts.add_slot(Some(Value::Obj(o)));
@@ -366,6 +374,23 @@ impl<S: Store> Heap<S> {
     {
         let v = self.operand(0);
         self.parts.freeze(v, self.rows, &mut self.work, steps)?;
+        self.parts.settle(&mut self.work, steps);
+        Ok(())
+    }
+
+    /// Closes the region whose bridge a slot holds, against all other ways into it: each other
+    /// slot, and each field of a local object, that refers to a row of the region or of one below
+    /// it is `None` then. It is refused where the slot is unset (`Unset`), and then where it holds
+    /// no bridge (`NotBridge`). It takes no memory. It looks at each row of the region and of those
+    /// below it, at each slot, at each local row, and at the fields of all these rows.
+    pub fn close<L: Ledger>(&mut self, at: usize, steps: &mut Steps<L>) -> Result<(), Fault>
+        requires { at < length self.old.state.slots }
+        ensures change { Gives (close_change at self.old.state) result self.old.state self.new.state }
+        ensures slots { OnOk result (length self.new.state.slots ≡ length self.old.state.slots) }
+        ensures room { SameRoom self.old self.new }
+    {
+        self.parts
+            .close(at, &mut self.loose, &mut self.work, steps)?;
         self.parts.settle(&mut self.work, steps);
         Ok(())
     }

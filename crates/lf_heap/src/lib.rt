@@ -2,10 +2,10 @@
 //! works.
 //!
 //! It stands on `lf_barrier` for writes, on `lf_settle` for dropping, on `lf_transfer` for
-//! merging, dissolving and freezing, on `lf_frozen` for the frozen rows, on `lf_domain`,
-//! `lf_graph` and `lf_regions` for stores and tables that count the edges of a state, and
-//! on `lf_base` and `lf_laws`, which define a state without counts and say what each call
-//! makes of it. It works over any store.
+//! merging, dissolving, freezing and closing, on `lf_frozen` for the frozen rows, on
+//! `lf_domain`, `lf_graph` and `lf_regions` for stores and tables that count the edges of a
+//! state, and on `lf_base` and `lf_laws`, which define a state without counts and say what
+//! each call makes of it. It works over any store.
 //!
 //! `Heap` promises that between two calls its state is well-formed, that store and table
 //! keep its counts, and that all its rows stay. Each call gives exactly the state that is

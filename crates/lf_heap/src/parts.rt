@@ -11,6 +11,7 @@ ghost use Rattle.lf_base.specs.Accesses.{field_of, or_no_field, read_refusal, re
 ghost use Rattle.lf_base.specs.Accesses.{store_refusal, store_result};
 ghost use Rattle.lf_base.specs.Asking.{GivesAnswer, answer_to, asked};
 ghost use Rattle.lf_base.specs.Edges.{Edge, Slot, edges_by, slot_targets};
+ghost use Rattle.lf_base.specs.CloseResult.{close_refusal};
 ghost use Rattle.lf_base.specs.DissolveResult.{dissolve_refusal, dissolve_result};
 ghost use Rattle.lf_base.specs.FreezeResult.{freeze_result};
 ghost use Rattle.lf_base.specs.HeapCalls.{making_refusal, merged_by, on_bridge};
@@ -33,7 +34,7 @@ ghost use Rattle.lf_domain.specs.OneEdge.{MayCount};
 ghost use Rattle.lf_frozen.specs.FrozenRows.{as_row};
 ghost use Rattle.lf_graph.specs.RowChanges.{with_new_row};
 ghost use Rattle.lf_graph.specs.StoredRows.{IsNewName, SameByOwner};
-ghost use Rattle.lf_heap.specs.Following.{Follows};
+ghost use Rattle.lf_heap.specs.Following.{Follows, closed_at};
 ghost use Rattle.lf_heap.specs.Heaps.{FitsInteger};
 ghost use Rattle.lf_settle.specs.Drops.{SameCapacity};
 ghost use Rattle.lf_settle.specs.WorkLists.{WorkList};
@@ -41,7 +42,7 @@ ghost use Rattle.lf_settle.specs.WorkLists.{WorkList};
 use crate::access::{Target, access_of};
 use crate::frozen::FrozenParts;
 use crate::questions::{answer, fault_of};
-use crate::suspects::{note, suspect_regions, watch_rows};
+use crate::suspects::{Kind, note, suspect_all, suspect_regions, watch_rows};
 use lf_barrier::{apply_write, plan_write};
 use lf_base::{
     Answer, Fault, HeapFail, Key, MOST_MADE, ObjId, OutOfMemory, Owner, Question, Steps, Value,
@@ -52,7 +53,7 @@ use lf_graph::Store;
 use lf_regions::RegionTable;
 use lf_settle::{Work, drop_field, lose_borrow, settle};
 use lf_transfer::{
-    Loose, apply_dissolve, apply_freeze, apply_merge, plan_dissolve, plan_freeze, plan_merge,
+    Loose, apply_dissolve, apply_freeze, apply_merge, close, plan_dissolve, plan_freeze, plan_merge,
 };
 use std::alloc::Global;
 use std::marker::{Brand, Model};
@@ -575,7 +576,7 @@ impl<S: Store> Parts<S> {
         ensures state { OnOk result (self.new.state ≡ freeze_result self.old.state v) }
         ensures noticed { OnOk result (Noticed self.old.state work.old.suspects → Noticed self.new.state work.new.suspects) }
         ensures no_more { OnOk result (length self.new.state.rows ≤ length self.old.state.rows) }
-        ensures enough { OnOk result (2 * rows + 4 ≤ work.new.spare) }
+        ensures enough { OnOk result (3 * rows + 4 ≤ work.new.spare) }
         ensures unchanged { OnErr result (self.new.state ≡ self.old.state) }
         ensures no_suspect { OnErr result (work.new.suspects ≡ work.old.suspects) }
         ensures no_less { OnErr result (work.old.spare ≤ work.new.spare) }
@@ -602,6 +603,43 @@ impl<S: Store> Parts<S> {
             steps,
         );
         suspect_regions(work, bare);
+        Ok(())
+    }
+
+    /// Closes the region whose bridge the slot at a place holds. The rows that it lets loose are
+    /// suspects then; an empty list, with room for each row, holds them until it is done.
+    pub(crate) fn close<L: Ledger>(
+        &mut self,
+        at: usize,
+        loose: &mut Loose,
+        work: &mut Work,
+        steps: &mut Steps<L>,
+    ) -> Result<(), Fault>
+        requires there { at < length self.old.state.slots }
+        requires none { loose.old.names ≡ [] }
+        requires listed { length self.old.state.rows ≤ loose.old.spare }
+        requires room { length self.old.state.rows ≤ work.old.spare }
+        ensures answer { result_err result ≡ close_refusal self.old.state at }
+        ensures state { OnOk result (self.new.state ≡ closed_at at self.old.state) }
+        ensures follows { OnOk result (Follows self.old.state self.new.state work.old work.new (length self.old.state.rows)) }
+        ensures unchanged { OnErr result (self.new.state ≡ self.old.state) }
+        ensures no_suspect { OnErr result (work.new ≡ work.old) }
+        ensures none_left { loose.new.names ≡ [] }
+        ensures list { loose.old.spare ≤ loose.new.spare }
+        ensures room { self.new.spare ≡ self.old.spare }
+    {
+        let closed = close(
+            &mut self.store,
+            &mut self.regions,
+            self.slots.as_mut_slice(),
+            at,
+            loose,
+            steps,
+        );
+        if let Err(fault) = closed {
+            return Err(fault);
+        }
+        suspect_all(work, loose, Kind::Objects);
         Ok(())
     }
 

@@ -22,6 +22,7 @@ use Rattle.lf_laws.proofs.Changes.NewRows.{NewOwner, new_row_keeps}
 use Rattle.lf_laws.proofs.KeptStates.NothingDropped.{more_slots, new_row_stays, slot_more}
 use Rattle.lf_laws.proofs.Losses.LossesNoticed.{kept_notices}
 use Rattle.lf_settle.specs.WorkLists.{WorkList}
+use Rattle.lf_transfer.specs.LooseNames.{LooseNames}
 use Rattle.lf_heap.specs.Following.{Follows}
 use Rattle.lf_heap.specs.Heaps.{IsAtRest}
 use Rattle.lf_heap.proofs.Slots.SlotLosses.{MayHold, lifted_well_formed, push_well_formed}
@@ -41,16 +42,16 @@ insert_length x (y ∷ ys) = elim (name_below x.name y.name) as (λ b. length (c
   | false ↦ omega (arith, insert_length x ys)
 ]
 
-module _ (s : State) (work : WorkList) (most : ℕ) (rest : IsAtRest s work most) where
+module _ {loose : LooseNames} (s : State) (work : WorkList) (most : ℕ) (rest : IsAtRest s work loose most) where
   -- nothing is to be noticed
   pub notices : Noticed s work.suspects
   notices = kept_notices s rest.settled.well_formed (ap (λ (t : State). t.rows) rest.settled.all_stay) work.suspects
 
-  pub has_room : 2 * length s.rows + 4 ≤ work.spare
+  pub has_room : 3 * length s.rows + 4 ≤ work.spare
   has_room = omega (arith, rest.rows, rest.room)
 
   -- ---- after the steps of a call
-  module _ (t : State) (middle : WorkList) (n : ℕ) (few : n ≤ 4) (f : Follows s t work middle n) where
+  module _ (t : State) (middle : WorkList) (n : ℕ) (few : n ≤ length s.rows + 4) (f : Follows s t work middle n) where
     pub notices_then : Noticed t middle.suspects
     notices_then = f.noticed notices
 
@@ -59,20 +60,22 @@ module _ (s : State) (work : WorkList) (most : ℕ) (rest : IsAtRest s work most
 
     -- ---- and settled
     pub rests_again : (u : State) (new : WorkList) → Settled u → new.suspects ≡ [] → length u.rows ≤ length t.rows
-        → new.spare ≡ middle.spare + length middle.suspects → IsAtRest u new most
+        → new.spare ≡ middle.spare + length middle.suspects → IsAtRest u new loose most
     rests_again u new settled none fewer spare = record {
       settled = settled;
       none_left = none;
+      none_loose = rest.none_loose;
       rows = omega (arith, fewer, f.as_many, rest.rows);
       few = rest.few;
       room = omega (arith, rest.room, spare, f.capacity);
+      listed = rest.listed;
     }
 
   -- ---- with other slots alone, of which none goes
-  rests_on : (u : State) → Settled u → length u.rows ≤ length s.rows → IsAtRest u work most
-  rests_on u settled fewer = record { settled = settled; none_left = rest.none_left; rows = omega (arith, fewer, rest.rows); few = rest.few; room = rest.room }
+  rests_on : (u : State) → Settled u → length u.rows ≤ length s.rows → IsAtRest u work loose most
+  rests_on u settled fewer = record { settled = settled; none_left = rest.none_left; none_loose = rest.none_loose; rows = omega (arith, fewer, rest.rows); few = rest.few; room = rest.room; listed = rest.listed }
 
-  pub push_rests : (w : Option Value) → MayHold s w → IsAtRest (with_slot s w) work most
+  pub push_rests : (w : Option Value) → MayHold s w → IsAtRest (with_slot s w) work loose most
   push_rests w may = rests_on (with_slot s w) (record { well_formed = push_well_formed s rest.settled.well_formed w may; all_stay = slot_more s w rest.settled.all_stay }) (omega arith)
 
   pub pushed_is : (w : Option Value) → with_slot s w ≡ pushed w s
@@ -91,7 +94,7 @@ module _ (s : State) (work : WorkList) (most : ℕ) (rest : IsAtRest s work most
   lift_stays : (n : ℕ) → kept (lifted n) ≡ lifted n
   lift_stays n = more_slots s (put_slot s.slots n None ++ slot_at s.slots n ∷ []) rest.settled.all_stay (λ v m. still_in s.slots n v m)
 
-  pub lift_rests : (n : ℕ) → IsAtRest (lifted n) work most
+  pub lift_rests : (n : ℕ) → IsAtRest (lifted n) work loose most
   lift_rests n = rests_on (lifted n) (record { well_formed = lifted_well_formed s rest.settled.well_formed n; all_stay = lift_stays n }) (omega arith)
 
   pub lifted_is : (n : ℕ) → lifted n ≡ kept (lifted n)
@@ -114,14 +117,17 @@ module _ (s : State) (work : WorkList) (most : ℕ) (rest : IsAtRest s work most
     may : MayHold (with_row s w) (Some (Obj (next_object s)))
     may v e = subst (SlotMayHold (with_row s w)) (some_is (Obj (next_object s)) v e) (new_may_be_held s w rest.settled.well_formed kind)
 
-    pub made_rests : (new : WorkList) (rows : ℕ) → new.suspects ≡ work.suspects → rows ≡ most + 1 → rows ≤ 2 ^ 61 → 2 * rows + 4 ≤ new.spare → IsAtRest u new rows
-    made_rests new rows none one few room =
-        subst (λ x. IsAtRest x new rows) (sym reached) (record {
+    pub made_rests : (new : WorkList) (list : LooseNames) (rows : ℕ) → new.suspects ≡ work.suspects → list.names ≡ loose.names → rows ≡ most + 1 → rows ≤ 2 ^ 61
+        → 3 * rows + 4 ≤ new.spare → rows ≤ list.spare → IsAtRest u new list rows
+    made_rests new list rows none no_name one few room listed =
+        subst (λ x. IsAtRest x new list rows) (sym reached) (record {
           settled = record { well_formed = push_well_formed (with_row s w) (new_row_keeps s w rest.settled.well_formed kind) (Some (Obj (next_object s))) may; all_stay = stays };
           none_left = none ∙ rest.none_left;
+          none_loose = no_name ∙ rest.none_loose;
           rows = omega (arith, insert_length (record { name = next_object s; owner = w; fields = [] }) s.rows, rest.rows, one);
           few = few;
           room = room;
+          listed = listed;
         })
 
 -- a slot that is set, and one that isn't

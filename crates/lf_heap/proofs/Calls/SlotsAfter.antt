@@ -1,22 +1,24 @@
 -- How many slots a call leaves.
-use Rattle.std.proofs.Common.{None, Option, Some, [], ap, arith, length, length-append, refl, ℕ, ◌+◌, ◌-◌, ◌∙◌, ◌∷◌, ◌≡◌, ◌≤◌}
-use Rattle.std.proofs.lemmas.List.{length-take-le}
+use Rattle.std.proofs.Common.{None, Option, Some, [], ap, arith, length, length-append, map, refl, ℕ, ◌+◌, ◌-◌, ◌∙◌, ◌∷◌, ◌≡◌, ◌≤◌}
+use Rattle.std.proofs.lemmas.List.{length-map, length-take-le}
 use Rattle.lf_base.specs.declared.faults.Fault.{Fault}
 use Rattle.lf_base.specs.declared.ids.ObjId.{ObjId}
 use Rattle.lf_base.specs.declared.values.Key.{Key}
 use Rattle.lf_base.specs.declared.values.Value.{Value}
 use Rattle.lf_base.specs.declared.values.Value.TheVariants as value
 use Rattle.lf_base.specs.Accesses.{read_refusal, read_value, remove_refusal, remove_result, store_refusal, store_result}
+use Rattle.lf_base.specs.CloseResult.{close_refusal, close_result, closed_slot}
 use Rattle.lf_base.specs.DissolveResult.{dissolve_refusal, dissolve_result}
-use Rattle.lf_base.specs.HeapCalls.{Done, dissolve_change, lift_change, load_change, making_refusal, merge_change, merged_by, new_object_change, new_region_change, on_bridge}
+use Rattle.lf_base.specs.HeapCalls.{Done, close_change, dissolve_change, lift_change, load_change, making_refusal, merge_change, merged_by, new_object_change, new_region_change, on_bridge}
 use Rattle.lf_base.specs.HeapCalls.{read_change, take_change, unless_refused, unset_change, unset_refusal, write_change}
 use Rattle.lf_base.specs.Kept.{kept}
 use Rattle.lf_base.specs.MergeResult.{merge_refusal}
 use Rattle.lf_base.specs.Names.{key_of}
-use Rattle.lf_base.specs.Operands.{operand, slot_below, with_last, without_last}
+use Rattle.lf_base.specs.Operands.{operand, set_value, slot_below, with_last, without_last}
 use Rattle.lf_base.specs.Owners.{bridge_of}
 use Rattle.lf_base.specs.PlainChanges.{next_object, object_result, region_result, slot_at, with_slot, with_slot_at}
 use Rattle.lf_base.specs.PlainState.{State}
+use Rattle.lf_heap.specs.Following.{closed_at}
 use Rattle.lf_heap.proofs.Calls.OperandSlots.{put_down_length, slots_left}
 use Rattle.lf_heap.proofs.Slots.SlotPlaces.{put_length}
 
@@ -112,3 +114,11 @@ pub slots_dissolved : (s t : State) → dissolve_change s ≡ Done t → length 
 slots_dissolved s t e =
     let left = on_bridge (bridge_of s (operand s 0)) (dissolve_result s) s in
     ap length (slots_of (dissolve_refusal s (operand s 0)) left t e) ∙ ap length (dissolved_slots (bridge_of s (operand s 0)) s)
+
+-- a close leaves as many
+pub closed_slots : (at : ℕ) (a : Option ObjId) (s : State) → length (on_bridge a (close_result s at) s).slots ≡ length s.slots
+closed_slots at (Some r) s = put_length (map (closed_slot s r) s.slots) at (slot_at s.slots at) ∙ length-map s.slots (closed_slot s r)
+closed_slots at None s = refl
+
+pub slots_closed : (s t : State) (at : ℕ) → close_change at s ≡ Done t → length t.slots ≡ length s.slots
+slots_closed s t at e = ap length (slots_of (close_refusal s at) (closed_at at s) t e) ∙ closed_slots at (bridge_of s (set_value (slot_at s.slots at))) s

@@ -30,10 +30,10 @@ use Rattle.lf_heap.specs.Heaps.{HasParts, heap_state}
 use Rattle.lf_heap.proofs.States.StoredStates.{Reached, reached}
 
 -- ---- suspects
-pub one_suspected : (r : ObjId) (rest : List ObjId) (w : List Suspect) → map Region (reverse rest) ++ (Region r ∷ w) ≡ map Region (reverse (r ∷ rest)) ++ w
-one_suspected r rest w =
-    sym (append_assoc (map Region (reverse rest)) (Region r ∷ []) w)
-    ∙ ap (λ l. l ++ w) (sym (map-append Region (reverse rest) (r ∷ [])) ∙ ap (map Region) (sym (reverse-append (r ∷ []) rest)))
+pub one_suspected : (f : ObjId → Suspect) (o : ObjId) (rest : List ObjId) (w : List Suspect) → map f (reverse rest) ++ (f o ∷ w) ≡ map f (reverse (o ∷ rest)) ++ w
+one_suspected f o rest w =
+    sym (append_assoc (map f (reverse rest)) (f o ∷ []) w)
+    ∙ ap (λ l. l ++ w) (sym (map-append f (reverse rest) (o ∷ [])) ∙ ap (map f) (sym (reverse-append (o ∷ []) rest)))
 
 -- names that were listed are suspects
 listed : (os : List ObjId) → map Region (reverse (reverse os ++ [])) ≡ map Region os

@@ -9,7 +9,7 @@ use Rattle.lf_heap.proofs.Calls.SlotsAfter.{slots_lifted}
 use Rattle.lf_heap.proofs.heap.Heap.lift.Goals as goal
 
 pub invariant_of-self : goal.invariant_of-self
-invariant_of-self g c = subst (λ t. IsAtRest t c.self.inside.work c.self.inside.rows) (sym c.lift_slot.ensures.state) (lift_rests c.self.inside.parts.state c.self.inside.work c.self.inside.rows c.self.invariant c.args.at)
+invariant_of-self g c = subst (λ t. IsAtRest t c.self.inside.work c.self.inside.loose c.self.inside.rows) (sym c.lift_slot.ensures.state) (lift_rests c.self.inside.parts.state c.self.inside.work c.self.inside.rows c.self.invariant c.args.at)
 
 pub returns-clause-change : goal.returns-clause-change
 returns-clause-change g c =

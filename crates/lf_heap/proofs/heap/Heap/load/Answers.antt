@@ -16,7 +16,7 @@ add_slot-requires-clause-may g c κs within u e =
 pub invariant_of-self : goal.invariant_of-self
 invariant_of-self g c =
     let s = c.self.inside.parts.state in
-    subst (λ t. IsAtRest t c.self.inside.work c.self.inside.rows) (sym c.add_slot.ensures.state)
+    subst (λ t. IsAtRest t c.self.inside.work c.self.inside.loose c.self.inside.rows) (sym c.add_slot.ensures.state)
     (push_rests c.self.inside.parts.state c.self.inside.work c.self.inside.rows c.self.invariant c.slot-v.result (λ u e. held_value s (c.self.invariant.settled).well_formed u (slot_member s.slots c.args.at u (sym c.slot-v.ensures ∙ e))))
 
 pub returns-clause-change : goal.returns-clause-change

@@ -11,8 +11,8 @@ use Rattle.lf_heap.proofs.heap.Heap.new_region.Goals as goal
 pub invariant_of-self-2 : goal.invariant_of-self-2
 invariant_of-self-2 g c =
     let s = c.self.inside.parts.state in
-    made_rests c.self.inside.parts.state c.self.inside.work c.self.inside.rows c.self.invariant (In (next_object s)) (inr refl) c.add_region.new.self.state c.add_slot.new.self.state c.in_ok-o.o c.in_ok-o.ensures.state c.in_ok-o.ensures.name c.add_slot.ensures.state c.watch_one_more.new.work
-    c.in_ok-rows.rows c.in_ok-rows.ensures.suspects c.in_ok-rows.ensures.rows c.in_ok-rows.ensures.few c.in_ok-rows.ensures.enough
+    made_rests c.self.inside.parts.state c.self.inside.work c.self.inside.rows c.self.invariant (In (next_object s)) (inr refl) c.add_region.new.self.state c.add_slot.new.self.state c.in_ok-o.o c.in_ok-o.ensures.state c.in_ok-o.ensures.name c.add_slot.ensures.state c.watch_one_more.new.work c.watch_one_more.new.loose
+    c.in_ok-rows.rows c.in_ok-rows.ensures.suspects c.in_ok-rows.ensures.names c.in_ok-rows.ensures.rows c.in_ok-rows.ensures.few c.in_ok-rows.ensures.enough c.in_ok-rows.ensures.listed
 
 pub returns-clause-change : goal.returns-clause-change
 returns-clause-change g c =

@@ -9,7 +9,7 @@ use Rattle.lf_heap.proofs.heap.Heap.push.Goals as goal
 
 pub invariant_of-self : goal.invariant_of-self
 invariant_of-self g c =
-    subst (λ t. IsAtRest t c.self.inside.work c.self.inside.rows) (sym c.add_slot.ensures.state)
+    subst (λ t. IsAtRest t c.self.inside.work c.self.inside.loose c.self.inside.rows) (sym c.add_slot.ensures.state)
     (push_rests c.self.inside.parts.state c.self.inside.work c.self.inside.rows c.self.invariant c.args.v (λ u e. subst (λ (d : Domain). SlotMayHold d.state u) (sym c.self.view_is) (c.requires.may u e)))
 
 pub returns-clause-state : goal.returns-clause-state
