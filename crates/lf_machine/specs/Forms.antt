@@ -2,8 +2,6 @@
 use Rattle.std.specs.Prelude.{Bool, List, false, true, ◌≡◌}
 use Rattle.std.specs.List.{list_all}
 use Rattle.lf_code.specs.declared.body.Placed.{Placed}
-use Rattle.lf_code.specs.declared.instr.AskName.{AskName}
-use Rattle.lf_code.specs.declared.instr.AskName.TheVariants.{Close}
 use Rattle.lf_code.specs.declared.instr.BuiltName.{BuiltName}
 use Rattle.lf_code.specs.declared.instr.BuiltName.TheVariants.{Cown}
 use Rattle.lf_code.specs.declared.instr.Instr.{Instr}
@@ -14,14 +12,9 @@ abbrev pub built_runs : BuiltName → Bool
 built_runs Cown = false
 built_runs _ = true
 
-abbrev pub ask_runs : AskName → Bool
-ask_runs Close = false
-ask_runs _ = true
-
--- all instructions run but a `when`, those that make cowns, and those that close a region
+-- all instructions run but a `when`, and those that make cowns
 abbrev pub runs : Instr → Bool
 runs (instr.Built name count) = built_runs name
-runs (instr.Ask name v) = ask_runs name
 runs (instr.When body cowns captures) = false
 runs _ = true
 

@@ -86,7 +86,7 @@ pub(crate) fn act<S: Store, L: Ledger>(
         Instr::Binary(op) => progress.binary(*op, steps),
         Instr::Test => progress.test(),
         Instr::Built { name, count } => built(progress, code.texts(), *name, *count, steps),
-        Instr::Ask { name, var } => progress.ask(*name, place_of(progress, base, *var)),
+        Instr::Ask { name, var } => progress.ask(*name, place_of(progress, base, *var), steps),
         Instr::Pop => progress.pop(steps),
         Instr::When { .. } => unreachable!(),
         Instr::Jump(_) | Instr::Unless(_) | Instr::And(_) | Instr::Or(_) => unreachable!(),

@@ -1,17 +1,16 @@
 //! How far a behaviour is, and what instructions do to that.
 
-ghost use Rattle.std.specs.Prelude.{◌≡◌, ◌≤◌, ◌<◌, ◌+◌, [], Some, length, true};
+ghost use Rattle.std.specs.Prelude.{◌≡◌, ◌≤◌, ◌<◌, ◌+◌, [], None, Some, length};
 ghost use Rattle.lf_base.specs.HeapCalls.{dissolve_change, frozen, lift_change, load_change, merge_change, new_object_change};
 ghost use Rattle.lf_base.specs.HeapCalls.{new_region_change, read_change, take_change, unset_change, write_change};
 ghost use Rattle.lf_base.specs.Operands.{operand as operand_of, put_down};
 ghost use Rattle.lf_code.specs.Actions as spec;
 ghost use Rattle.lf_code.specs.Asks as asks;
-ghost use Rattle.lf_code.specs.Asks.{ask_change};
+ghost use Rattle.lf_code.specs.Asks.{ask_by, ask_change};
 ghost use Rattle.lf_code.specs.DroppingOnce.{IsPlain};
 ghost use Rattle.lf_code.specs.Prints.{print_line};
 ghost use Rattle.lf_code.specs.Progress.{Faulted, on_state, to_state};
 ghost use Rattle.lf_machine.specs.Actions.{Tells};
-ghost use Rattle.lf_machine.specs.Forms.{ask_runs};
 
 use crate::heap_parts::{add_unset, bring_down, drop_last, operand, spelled_operands, value_of};
 use crate::operators::{binary, unary};
@@ -50,18 +49,17 @@ impl<S: Store> Model for Progress<S> {
     ghost invariant = { λ p. HasPrinted p.printed p.lines };
 }
 
-// The question that a built-in call asks.
-fn question_of(name: AskName) -> Question
-    requires { ask_runs name ≡ true }
-    ensures { asks.question_of name ≡ Some result }
+// The question that a built-in call asks; `close` asks none.
+fn question_of(name: AskName) -> Option<Question>
+    ensures { result ≡ asks.question_of name }
 {
     match name {
-        AskName::Close => unreachable!(),
-        AskName::Refs => Question::Refs,
-        AskName::Borrowed => Question::Borrowed,
-        AskName::OpenChildren => Question::OpenChildren,
-        AskName::Owner => Question::Owner,
-        AskName::IsClosed => Question::IsClosed,
+        AskName::Close => None,
+        AskName::Refs => Some(Question::Refs),
+        AskName::Borrowed => Some(Question::Borrowed),
+        AskName::OpenChildren => Some(Question::OpenChildren),
+        AskName::Owner => Some(Question::Owner),
+        AskName::IsClosed => Some(Question::IsClosed),
     }
 }
 
@@ -307,17 +305,44 @@ impl<S: Store> Progress<S> {
         self.heap.pop(steps);
     }
 
-    /// Answers a question on a slot. It is refused as the heap's question is.
-    pub(crate) fn ask(&mut self, name: AskName, at: usize) -> Result<(), HeapFail>
-        requires runs { ask_runs name ≡ true }
-        requires there { at < length self.old.state.slots }
-        ensures { Tells (on_state (ask_change name at) self.old) result self.old self.new }
+    // Pushes the answer to a question on a slot. It is refused as the heap's question is.
+    fn answer(&mut self, question: Question, at: usize) -> Result<(), HeapFail>
+        requires { at < length self.old.state.slots }
+        ensures { Tells (on_state (ask_by (Some question) at) self.old) result self.old self.new }
     {
-        let question = question_of(name);
         self.heap.room(1)?;
         let answer = self.heap.ask(question, at)?;
         self.heap.push(Some(value_of(answer)));
         Ok(())
+    }
+
+    // Closes the region whose bridge a slot holds, and pushes `None`. It is refused as the heap's
+    // close is.
+    fn close<L: Ledger>(&mut self, at: usize, steps: &mut Steps<L>) -> Result<(), HeapFail>
+        requires { at < length self.old.state.slots }
+        ensures { Tells (on_state (ask_by None at) self.old) result self.old self.new }
+    {
+        self.heap.room(1)?;
+        self.heap.close(at, steps)?;
+        self.heap.push(Some(Value::None));
+        Ok(())
+    }
+
+    /// Answers a question on a slot, or closes the region whose bridge it holds. It is refused as
+    /// the heap's call is.
+    pub(crate) fn ask<L: Ledger>(
+        &mut self,
+        name: AskName,
+        at: usize,
+        steps: &mut Steps<L>,
+    ) -> Result<(), HeapFail>
+        requires { at < length self.old.state.slots }
+        ensures { Tells (on_state (ask_change name at) self.old) result self.old self.new }
+    {
+        match question_of(name) {
+            Some(question) => self.answer(question, at),
+            None => self.close(at, steps),
+        }
     }
 
     /// Prints the last operands as a line, and puts `None` in their place. It is refused where

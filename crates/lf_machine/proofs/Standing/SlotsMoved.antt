@@ -5,7 +5,7 @@ use Rattle.lf_base.specs.declared.faults.Fault.{Fault}
 use Rattle.lf_base.specs.declared.faults.Fault.TheVariants.{OutputFull}
 use Rattle.lf_base.specs.declared.values.Value.TheVariants as value
 use Rattle.lf_base.specs.Asking.{Answered, Asked, NotAnswered, asked, value_of_answer}
-use Rattle.lf_base.specs.HeapCalls.{Changed, Done, Refused, dissolve_change, lift_change, load_change, merge_change, new_object_change, new_region_change}
+use Rattle.lf_base.specs.HeapCalls.{Changed, Done, Refused, close_change, dissolve_change, lift_change, load_change, merge_change, new_object_change, new_region_change}
 use Rattle.lf_base.specs.HeapCalls.{read_change, take_change, unset_change, write_change}
 use Rattle.lf_base.specs.Operands.{operand, popped, pushed, put_down}
 use Rattle.lf_base.specs.PlainState.{State}
@@ -19,12 +19,12 @@ use Rattle.lf_code.specs.declared.instr.BuiltName.TheVariants as built_name
 use Rattle.lf_code.specs.declared.instr.Instr.{Instr}
 use Rattle.lf_code.specs.declared.instr.Instr.TheVariants as instr
 use Rattle.lf_code.specs.Actions.{binary_change, brought_down, left_down_to, pops, replaced, test_by, last_truth, tick_by, unary_change, unset_pushed}
-use Rattle.lf_code.specs.Asks.{answer_pushed, ask_by, ask_change, question_of}
+use Rattle.lf_code.specs.Asks.{answer_pushed, ask_by, ask_change, none_pushed, question_of}
 use Rattle.lf_code.specs.Operations.{leaves, needs}
 use Rattle.lf_code.specs.Operators.{Computed, Faults, Yields, binary, unary}
 use Rattle.lf_code.specs.Progress.{Did, Does, Faulted, Progress, did_change}
 use Rattle.lf_code.specs.ValidCode.{instr_fits}
-use Rattle.lf_heap.proofs.Calls.SlotsAfter.{slots_dissolved, slots_lifted, slots_loaded, slots_merged, slots_popped, slots_pushed, slots_put, slots_read, slots_taken, slots_unset, slots_with_object, slots_with_region, slots_written}
+use Rattle.lf_heap.proofs.Calls.SlotsAfter.{slots_closed, slots_dissolved, slots_lifted, slots_loaded, slots_merged, slots_popped, slots_pushed, slots_put, slots_read, slots_taken, slots_unset, slots_with_object, slots_with_region, slots_written}
 use Rattle.lf_machine.specs.Actions.{action_of}
 use Rattle.lf_machine.specs.Forms.{goes_on, runs}
 
@@ -63,6 +63,10 @@ replaced_moves n s (Faults fault) h = tt
 answered_moves : (s : State) (a : Asked) → MovesState 0 1 s (answer_pushed s a)
 answered_moves s (Answered a) = omega (arith, slots_pushed s (Some (value_of_answer a)))
 answered_moves s (NotAnswered fault) = tt
+
+closed_moves : (s : State) (x : Changed) → ((t : State) → x ≡ Done t → length t.slots ≡ length s.slots) → MovesState 0 1 s (none_pushed x)
+closed_moves s (Done t) h = omega (arith, h t refl, slots_pushed t (Some value.None))
+closed_moves s (Refused fault) h = tt
 
 tick_moves : (n : ℕ) (c : Progress) → Moves 0 0 c (tick_by n c)
 tick_moves zero c = tt
@@ -136,7 +140,8 @@ module _ (bodies : List Body) (texts : List Text) (vars addresses base : ℕ) (c
       let one : n ≡ 1 = eqb-true n 1 f in
       by_state n 1 c (dissolve_change c.state)
       (by_done n 1 c.state (dissolve_change c.state) (λ t e. omega (arith, one, slots_dissolved c.state t e)))
-  moved (instr.Ask ask_name.Close v) g r f h = absurd (cc)
+  moved (instr.Ask ask_name.Close v) g r f h =
+      by_state 0 1 c (none_pushed (close_change (base + v) c.state)) (closed_moves c.state (close_change (base + v) c.state) (λ t e. slots_closed c.state t (base + v) e))
   moved (instr.Ask ask_name.Refs v) g r f h = asks ask_name.Refs question.Refs v refl
   moved (instr.Ask ask_name.Borrowed v) g r f h = asks ask_name.Borrowed question.Borrowed v refl
   moved (instr.Ask ask_name.OpenChildren v) g r f h = asks ask_name.OpenChildren question.OpenChildren v refl
