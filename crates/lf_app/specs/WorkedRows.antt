@@ -3,7 +3,7 @@ use Rattle.std.specs.Prelude.{◌≡◌, ℕ, List, [], ◌∷◌, codes, Some, 
 use Rattle.lf_code.specs.declared.body.Body.{Body}
 use Rattle.lf_code.specs.declared.body.BodyName.TheVariants.{When}
 use Rattle.lf_code.specs.declared.body.Placed.{Placed}
-use Rattle.lf_code.specs.declared.instr.AskName.TheVariants.{Close, Refs}
+use Rattle.lf_code.specs.declared.instr.AskName.TheVariants.{Close}
 use Rattle.lf_code.specs.declared.instr.BuiltName.TheVariants.{Cown, Print}
 use Rattle.lf_code.specs.declared.instr.Instr.TheVariants as instr
 use Rattle.lf_code.specs.CodeStep.{Program, on_line}
@@ -46,5 +46,5 @@ of_bodies bodies = record { bodies = bodies; texts = [] }
 abbrev pub FirstUnbuiltShows : Type 0
 FirstUnbuiltShows =
     (first_unbuilt (of_bodies (of_list (on_line 5 (instr.When 1 [] []) ∷ []) ∷ of_list (on_line 3 (instr.Built Cown 1) ∷ []) ∷ [])) ≡ Some 3)
-    × (first_unbuilt (of_bodies (of_list (on_line 2 instr.Tick ∷ on_line 2 (instr.Ask Close 0) ∷ []) ∷ of_list [] ∷ [])) ≡ Some 2)
-    × (first_unbuilt (of_bodies (of_list (on_line 1 (instr.Built Print 1) ∷ on_line 2 (instr.Ask Refs 0) ∷ []) ∷ [])) ≡ None)
+    × (first_unbuilt (of_bodies (of_list (on_line 2 instr.Tick ∷ on_line 2 (instr.Built Cown 1) ∷ []) ∷ of_list [] ∷ [])) ≡ Some 2)
+    × (first_unbuilt (of_bodies (of_list (on_line 1 (instr.Built Print 1) ∷ on_line 2 (instr.Ask Close 0) ∷ []) ∷ [])) ≡ None)

@@ -2,7 +2,7 @@ use crate::accounts::ACCOUNTS;
 use crate::row::{REFUSED, Row};
 
 // Scripts of the language that don't run yet.
-static ROWS: [Row; 14] = [
+static ROWS: [Row; 13] = [
     Row {
         name: "when",
         script: "x = 1\nwhen:\n    pass\n",
@@ -13,12 +13,6 @@ static ROWS: [Row; 14] = [
         name: "Cown",
         script: "c = Cown(1)\n",
         text: "refused NotBuilt at line 1 column 1\n",
-        ..REFUSED
-    },
-    Row {
-        name: "close",
-        script: "r = Region()\nclose(r)\n",
-        text: "refused NotBuilt at line 2 column 1\n",
         ..REFUSED
     },
     Row {

@@ -1,7 +1,7 @@
 use crate::row::{FAULTED, RAN, Row};
 
-// Scripts that freeze, and that merge and dissolve regions.
-static ROWS: [Row; 29] = [
+// Scripts that freeze, and that merge, dissolve and close regions.
+static ROWS: [Row; 41] = [
     Row {
         name: "merges",
         script: "b = Region()\na = Region()\nb.a = a\nmerge(a, b)\nprint(owner(b), refs(a), borrowed(a))\n",
@@ -176,9 +176,81 @@ static ROWS: [Row; 29] = [
         text: "[0]\n3 3 1 1\ndone 1 behaviours 0 faults\n",
         ..RAN
     },
+    Row {
+        name: "a region is closed",
+        script: "r = Region()\nx = {}\nr.x = x\nq = r\nclose(r)\nprint(q, x, borrowed(r), is_closed(r))\n",
+        text: "[0]\nNone None 1 True\ndone 1 behaviours 0 faults\n",
+        ..RAN
+    },
+    Row {
+        name: "close gives None, and shuts operands",
+        script: "r = Region()\ny = {}\nr.y = y\nprint(y, close(r), y)\n",
+        text: "[0]\nNone None None\ndone 1 behaviours 0 faults\n",
+        ..RAN
+    },
+    Row {
+        name: "a close shuts what leads below the region, in fields of local objects too",
+        script: "r = Region()\ns = Region()\nr.s = s\ny = {}\ns.y = y\nl = {}\nl.s = s\nl.y = y\nl.r = r\nclose(r)\nprint(s, y, l.s, l.y, l.r, borrowed(r), open_children(r), is_closed(r))\n",
+        text: "[0]\nNone None None None None 1 0 True\ndone 1 behaviours 0 faults\n",
+        ..RAN
+    },
+    Row {
+        name: "a close shuts the variables of other frames",
+        script: "def shut(b):\n    close(b)\n    return b\n\nr = Region()\nx = {}\nr.x = x\nb = shut(r)\nprint(r, b, x, borrowed(b))\n",
+        text: "[0]\nNone object 0.1 None 2\ndone 1 behaviours 0 faults\n",
+        ..RAN
+    },
+    Row {
+        name: "an inner object that a close lets loose goes",
+        script: "r = Region()\nx = {}\nz = {}\nr.x = x\nr.z = z\nx.z = z\nr.x = 0\nprint(refs(x), refs(z))\nclose(r)\nz = r.z\nprint(x, refs(z), borrowed(r))\n",
+        text: "[0]\n1 3\nNone 2 2\ndone 1 behaviours 0 faults\n",
+        ..RAN
+    },
+    Row {
+        name: "a close leaves other regions open",
+        script: "r = Region()\ns = Region()\nx = {}\ns.x = x\nclose(r)\nprint(owner(x), refs(s), borrowed(s))\n",
+        text: "[0]\nregion 1 2\ndone 1 behaviours 0 faults\n",
+        ..RAN
+    },
+    Row {
+        name: "a close leaves the owner open",
+        script: "r = Region()\ns = Region()\nr.s = s\nclose(s)\nprint(borrowed(r), borrowed(s), open_children(r), is_closed(s), is_closed(r))\n",
+        text: "[0]\n1 1 1 True False\ndone 1 behaviours 0 faults\n",
+        ..RAN
+    },
+    Row {
+        name: "a close leaves an unset variable unset",
+        script: "r = Region()\nx = {}\nr.x = x\ndrop x\nclose(r)\nprint(x)\n",
+        text: "[0]\nfault F1 Unset at line 6\ndone 1 behaviours 1 faults\n",
+        ..FAULTED
+    },
+    Row {
+        name: "close of an unset variable",
+        script: "r = Region()\ndrop r\nclose(r)\n",
+        text: "[0]\nfault F1 Unset at line 3\ndone 1 behaviours 1 faults\n",
+        ..FAULTED
+    },
+    Row {
+        name: "close of a local object",
+        script: "x = {}\nclose(x)\n",
+        text: "[0]\nfault F12 NotBridge at line 2\ndone 1 behaviours 1 faults\n",
+        ..FAULTED
+    },
+    Row {
+        name: "close of an inner object",
+        script: "r = Region()\nx = {}\nr.x = x\nclose(x)\n",
+        text: "[0]\nfault F12 NotBridge at line 4\ndone 1 behaviours 1 faults\n",
+        ..FAULTED
+    },
+    Row {
+        name: "close of a plain value",
+        script: "x = 1\nclose(x)\n",
+        text: "[0]\nfault F12 NotBridge at line 2\ndone 1 behaviours 1 faults\n",
+        ..FAULTED
+    },
 ];
 
-/// The scripts that freeze, and that merge and dissolve regions.
+/// The scripts that freeze, and that merge, dissolve and close regions.
 pub fn transfer_rows() -> &'static [Row] {
     &ROWS
 }
