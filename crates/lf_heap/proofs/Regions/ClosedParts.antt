@@ -1,22 +1,21 @@
 -- A region that was closed: what the parts keep, and what is noticed.
-use Rattle.std.proofs.Common.{List, None, Option, Some, [], ap, append-nil, arith, cond, drop, inl, inr, is_some, length, map, refl, reverse, subst, sym, take, true, ℕ, ◌&&◌, ◌+◌, ◌++◌, ◌^◌, ◌∙◌, ◌∷◌, ◌≡◌, ◌≤◌}
+use Rattle.std.proofs.Common.{List, None, Option, Some, [], ap, append-nil, arith, cond, drop, inl, inr, is_some, length, map, refl, reverse, subst, sym, take, true, ℕ, ◌++◌, ◌∙◌, ◌∷◌, ◌≡◌, ◌≤◌}
 use Rattle.std.proofs.Math.Seq.{take-append_seam}
 use Rattle.std.proofs.lemmas.Bool.{and_parts}
 use Rattle.std.proofs.lemmas.List.{length-append, length-map, length-reverse, reverse-append}
-use Rattle.lf_base.specs.declared.faults.Fault.{Fault}
 use Rattle.lf_base.specs.declared.faults.Fault.TheVariants.{NotBridge}
 use Rattle.lf_base.specs.declared.ids.ObjId.{ObjId}
 use Rattle.lf_base.specs.declared.values.Owner.{Owner}
 use Rattle.lf_base.specs.declared.values.Value.{Value}
-use Rattle.lf_base.specs.CloseResult.{close_refusal, close_refusal_by, close_result, closed_slot}
+use Rattle.lf_base.specs.CloseResult.{close_refusal, close_refusal_by, close_result}
 use Rattle.lf_base.specs.HeapCalls.{on_bridge}
 use Rattle.lf_base.specs.Noticing.{Noticed}
 use Rattle.lf_base.specs.Operands.{set_value}
 use Rattle.lf_base.specs.Owners.{bridge_of, has_name, owner_in}
-use Rattle.lf_base.specs.PlainChanges.{put_slot, slot_at, with_slots}
+use Rattle.lf_base.specs.PlainChanges.{slot_at}
 use Rattle.lf_base.specs.PlainState.{Row, State}
 use Rattle.lf_base.specs.Sets.{Member}
-use Rattle.lf_base.specs.Suspects.{Object, Suspect}
+use Rattle.lf_base.specs.Suspects.{Object}
 use Rattle.lf_base.specs.WellFormed.{WellFormed}
 use Rattle.lf_base.proofs.ListLemmas.Members.{Member_left, Member_map, Member_right}
 use Rattle.lf_domain.specs.Counts.{CountsOf}
@@ -46,8 +45,8 @@ module _ (s : State) (at : ℕ) where
   slot_there None e n = absurd (cc)
   slot_there (Some v) e n = bridge_there v e (bridge_of s v) refl n
 
-  pub bridge_held : close_refusal s at ≡ None → (r : ObjId) × HoldsBridge s at r
-  bridge_held n = slot_there (slot_at s.slots at) refl n
+  pub held_bridge : close_refusal s at ≡ None → (r : ObjId) × HoldsBridge s at r
+  held_bridge n = slot_there (slot_at s.slots at) refl n
 
 in_reverse : (o : ObjId) (os : List ObjId) → Member o os → Member o (reverse os)
 in_reverse o [] m = absurd m

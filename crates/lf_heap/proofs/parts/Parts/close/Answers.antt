@@ -1,11 +1,10 @@
-use Rattle.std.proofs.Common.{List, None, Option, ap, arith, drop, length, subst, sym, take, ◌++◌, ◌∙◌, ◌≡◌}
+use Rattle.std.proofs.Common.{ap, arith, drop, length, subst, sym, take, ◌++◌, ◌∙◌, ◌≡◌}
 use Rattle.lf_base.specs.declared.ids.ObjId.{ObjId}
 use Rattle.lf_base.specs.CloseResult.{close_refusal, close_result}
-use Rattle.lf_base.specs.PlainState.{State}
 use Rattle.lf_transfer.specs.Closing.{HoldsBridge, IsOpenedBy}
 use Rattle.lf_heap.specs.Following.{Follows, closed_at}
 use Rattle.lf_heap.specs.Heaps.{Domain, heap_state}
-use Rattle.lf_heap.proofs.Regions.ClosedParts.{bridge_held, close_follows, close_is, close_parts, closed_is, few_loose, opened, rows_are, written_back}
+use Rattle.lf_heap.proofs.Regions.ClosedParts.{held_bridge, close_follows, close_is, close_parts, closed_is, few_loose, opened, rows_are, written_back}
 use Rattle.lf_heap.proofs.parts.Parts.close.Goals as goal
 
 pub close-closed-requires-clause-opened : goal.close-closed-requires-clause-opened
@@ -40,7 +39,7 @@ suspect_all-requires g c =
     let rows = g.S.Store.rows h.store in
     let s = heap_state h.birth h.objects h.frozen rows h.slots.items in
     let before = opened h.birth h.objects h.frozen rows h.slots.items h.regions h.cells c.self.invariant c.as_mut_slice.result.now c.as_mut_slice.ensures.value in
-    let held = bridge_held s c.args.at (sym (c.in_default.ensures.answer s before)) in
+    let held = held_bridge s c.args.at (sym (c.in_default.ensures.answer s before)) in
     omega (
       arith,
       few_loose h.birth h.objects h.frozen rows h.slots.items h.regions h.cells c.self.invariant c.args.at held.0 held.1 c.args.loose.now.names c.close-closed.new.work.names
@@ -61,7 +60,7 @@ module _ (g : _) (c : goal.After-suspect_all g) where
   held =
       let h = c.self.inside in
       let s = heap_state h.birth h.objects h.frozen (g.S.Store.rows h.store) h.slots.items in
-      bridge_held s c.args.at (sym (c.in_default.ensures.answer s before))
+      held_bridge s c.args.at (sym (c.in_default.ensures.answer s before))
 
   put : take c.self.inside.slots.len (c.close-closed.new.slots ++ drop (length c.close-closed.new.slots) c.self.inside.slots.items)
       ≡ (close_result (heap_state c.self.inside.birth c.self.inside.objects c.self.inside.frozen (g.S.Store.rows c.self.inside.store) c.self.inside.slots.items) c.args.at held.0).slots
