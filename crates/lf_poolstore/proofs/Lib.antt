@@ -17,3 +17,5 @@ pub mod MovedRows
 pub mod WholeUnits
 pub mod Written
 pub mod WrittenUnits
+pub mod UnitPlaces
+pub mod PartUnits

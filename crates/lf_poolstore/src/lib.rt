@@ -12,6 +12,7 @@ mod name_index;
 mod other_names;
 mod owner_units;
 mod place;
+mod pool_store;
 mod pools;
 mod row_list;
 mod unit;
@@ -19,7 +20,8 @@ mod unit_row;
 
 pub use name_index::NameIndex;
 pub use place::Place;
-pub use pools::Pools;
+pub use pool_store::PoolStore;
+pub use pools::{PoolPart, Pools};
 pub use row_list::RowList;
 pub use unit::Unit;
 pub use unit_row::UnitRow;
