@@ -1,5 +1,5 @@
 -- A unit that comes into pools from another store, with all its names.
-use Rattle.std.proofs.Common.{◌≡◌, ℕ, true, is_some, ◌++◌, List, [], Option, Some, None, refl, ap, sym, ◌∙◌}
+use Rattle.std.proofs.Common.{◌≡◌, ℕ, is_some, ◌++◌, List, [], Option, Some, None, refl, ap, sym, ◌∙◌}
 use Rattle.lf_base.specs.declared.ids.ObjId.{ObjId}
 use Rattle.lf_base.specs.declared.values.Owner.{Owner}
 use Rattle.lf_graph.specs.Parts.{AllNew}
@@ -57,3 +57,8 @@ module _ (index : ObjId → Option Place) (numbers : Numbers) (at : UnitsAt) (is
 
     pub come_rows : (after : List CountedRow) → ((w : Owner) → rows_of w after ≡ rows_by (unit_of next now w)) → SameByOwner after (rows ++ v.rows)
     come_rows after shown_now = added_rows index numbers next at now is n v adds free whole rows after shown shown_now
+
+-- the index after room was made and the names of a unit came, told from the index before
+pub put_led : (index room led : ObjId → Option Place) (n : ℕ) (u v : UnitView) → u ≡ v → ((q : ObjId) → led q ≡ led_by n (place_in u q) (room q)) → ((q : ObjId) → room q ≡ index q)
+    → (q : ObjId) → led q ≡ led_by n (place_in v q) (index q)
+put_led index room led n u v same set stays q = set q ∙ ap (λ (w : UnitView). led_by n (place_in w q) (room q)) same ∙ ap (led_by n (place_in v q)) (stays q)

@@ -1,5 +1,5 @@
 -- Rows of a unit by their place, and the index that leads to them.
-use Rattle.std.proofs.Common.{◌≡◌, ◌≢◌, ℕ, Bool, true, false, cond, ◌+◌, ◌≤◌, ◌<◌, List, [], ◌∷◌, length, map, option_map, slice_get, Option, Some, None, refl, ap, sym, ◌∙◌, subst, zero, suc, arith}
+use Rattle.std.proofs.Common.{◌≡◌, ◌≢◌, ℕ, Bool, true, false, cond, ◌+◌, ◌≤◌, ◌<◌, [], ◌∷◌, length, option_map, slice_get, Option, Some, None, refl, ap, sym, ◌∙◌, subst, zero, suc, arith}
 use Rattle.std.specs.Prelude.{eqb}
 use Rattle.std.specs.Map.{lookup}
 use Rattle.std.specs.Option.{IsSome}
@@ -18,7 +18,6 @@ use Rattle.lf_pool.specs.Cells.{node}
 use Rattle.lf_pool.proofs.Beheads.{node_other}
 use Rattle.lf_pool.proofs.Joins.{some_is}
 use Rattle.lf_poolstore.specs.declared.name_index.NameIndex.{NameIndex}
-use Rattle.lf_poolstore.specs.declared.place.Place.{Place}
 use Rattle.lf_poolstore.specs.declared.unit_row.UnitRow.{UnitRow}
 use Rattle.lf_poolstore.specs.Index.{index_room, place_at}
 use Rattle.lf_poolstore.specs.Pools.{led_by, place_of}
@@ -26,8 +25,8 @@ use Rattle.lf_graph.specs.StoredRows.{row_named}
 use Rattle.lf_poolstore.specs.RowLists.{ListView, entry_at, names_in, numbers_in}
 use Rattle.lf_poolstore.specs.Units.{FieldPool, StandsAt, UnitView, places_in, rows_in, whole}
 use Rattle.lf_poolstore.proofs.Entries.{Entries}
-use Rattle.lf_poolstore.proofs.CellFields.{no_number}
-use Rattle.lf_poolstore.proofs.FieldPlaces.{after_at}
+use Rattle.lf_pool.proofs.Places.{no_number}
+use Rattle.lf_pool.proofs.Places.{after_at}
 use Rattle.lf_poolstore.proofs.RowLists.{entry}
 use Rattle.lf_poolstore.proofs.SeenUnits.{Seen, found_later, row_seen, same_row, stands_seen}
 

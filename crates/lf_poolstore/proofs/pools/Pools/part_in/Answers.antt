@@ -1,4 +1,4 @@
-use Rattle.std.proofs.Common.{sym, ◌∙◌}
+use Rattle.std.proofs.Common.{◌∙◌}
 use Rattle.lf_base.specs.declared.values.Owner.TheVariants.{In}
 use Rattle.lf_poolstore.specs.PoolViews.{pool_rows}
 use Rattle.lf_poolstore.proofs.PartUnits.{emptied, emptied_more, emptied_new}

@@ -1,5 +1,4 @@
-use Rattle.std.proofs.Common.{Some, ap, length, option_map, sym, ℕ, ◌∙◌, ◌≡◌}
-use Rattle.lf_graph.specs.declared.store.RowHead.{RowHead}
+use Rattle.std.proofs.Common.{Some, ap, length, option_map, sym, ◌∙◌, ◌≡◌}
 use Rattle.lf_graph.specs.Parts.{row_head}
 use Rattle.lf_poolstore.specs.RowLists.{numbers}
 use Rattle.lf_poolstore.specs.Units.{fields_of}

@@ -1,5 +1,5 @@
-use Rattle.std.proofs.Common.{arith, ap, length, subst, suc, sym, ◌+◌, ◌∙◌, ◌≡◌, ◌≤◌}
-use Rattle.lf_poolstore.proofs.CellFields.{no_number}
+use Rattle.std.proofs.Common.{arith, length, subst, suc, sym, ◌+◌, ◌∙◌, ◌≡◌, ◌≤◌}
+use Rattle.lf_pool.proofs.Places.{no_number}
 use Rattle.lf_poolstore.proofs.UnitPlaces.{Putting, all_put, far_put, none_put, one_put, put_room, put_there}
 use Rattle.lf_poolstore.proofs.unit.parts.put_places.Goals as goal
 
