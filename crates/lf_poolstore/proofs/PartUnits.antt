@@ -7,11 +7,17 @@ use Rattle.lf_graph.specs.StoredRows.{CountedRow, HasRow, IsNewName, SameByOwner
 use Rattle.lf_graph.proofs.Stores.Reordered.{rows_append}
 use Rattle.lf_graph.proofs.Stores.RowsByOwner.{under_its_owner}
 use Rattle.lf_graph.proofs.Stores.Walks.{no_name_filter}
+use Rattle.slab.specs.Slab.{Slab, get}
+use Rattle.lf_poolstore.specs.declared.name_index.NameIndex.{NameIndex}
 use Rattle.lf_poolstore.specs.declared.place.Place.{Place}
-use Rattle.lf_poolstore.specs.Pools.{AddsUnit, ArePools, Numbers, UnitsAt, led_by, place_of, rows_by, unit_of}
+use Rattle.lf_poolstore.specs.declared.pools.Pools.{Pools}
+use Rattle.lf_poolstore.specs.Index.{place_at}
+use Rattle.lf_poolstore.specs.PoolViews.{pool_number, pool_rows}
+use Rattle.lf_poolstore.specs.Pools.{AddsUnit, ArePools, Numbers, UnitsAt, led_by, place_of, rows_by, slot_rows, unit_of}
 use Rattle.lf_poolstore.specs.Units.{IsWhole, StandsAt, UnitView, place_in}
 use Rattle.lf_poolstore.proofs.AddedUnits.{added_kept, added_rows}
-use Rattle.lf_poolstore.proofs.PoolRows.{found_there}
+use Rattle.lf_poolstore.proofs.PoolFacts.{same_unit, shown}
+use Rattle.lf_poolstore.proofs.PoolRows.{found_there, shown_rows}
 use Rattle.lf_poolstore.proofs.TakenUnits.{none_taken}
 
 -- a new name is one of the same rows in another order too
@@ -51,14 +57,16 @@ module _ (index : ObjId → Option Place) (numbers : Numbers) (at : UnitsAt) (is
     go None f = refl
     go (Some y) f = let none = new r (whole.placed r ∙ ap is_some f) in let h = sym (ap is_some none) ∙ here in absurd (cc h)
 
-  module _ (next : Numbers) (now : UnitsAt) (adds : AddsUnit numbers next at now n v) (free : numbers v.owner ≡ None) where
-    pub come_kept : ArePools led next now
-    come_kept = added_kept index numbers next at now is n v adds free whole led this_led that_led
+-- pools with one more unit, whose rows have their places after room was made for them
+module _ (p : Pools) (room led : NameIndex) (stays : (q : ObjId) → place_at room q ≡ place_at p.index q) (next : Numbers) (units : Slab UnitView) (n : ℕ) (u v : UnitView) (adds : AddsUnit (pool_number p) next (get p.units) (get units) n v)
+    (here : get units n ≡ Some u) (set : (q : ObjId) → place_at led q ≡ led_by n (place_in u q) (place_at room q)) (free : pool_number p v.owner ≡ None) (whole : IsWhole v) (new : AllNew v.rows (pool_rows p)) where
+  leads : (q : ObjId) → place_at led q ≡ led_by n (place_in v q) (place_at p.index q)
+  leads q = set q ∙ ap (λ (w : UnitView). led_by n (place_in w q) (place_at room q)) (same_unit u v (sym here ∙ adds.here)) ∙ ap (led_by n (place_in v q)) (stays q)
 
-    pub come_rows : (after : List CountedRow) → ((w : Owner) → rows_of w after ≡ rows_by (unit_of next now w)) → SameByOwner after (rows ++ v.rows)
-    come_rows after shown_now = added_rows index numbers next at now is n v adds free whole rows after shown shown_now
+  pub put_kept : ArePools (place_at led) next (get units)
+  put_kept = added_kept (place_at p.index) (pool_number p) next (get p.units) (get units) p.kept n v adds free whole (place_at led)
+      (this_led (place_at p.index) (pool_number p) (get p.units) p.kept (pool_rows p) (shown p) v whole new n (place_at led) leads)
+      (that_led (place_at p.index) (pool_number p) (get p.units) p.kept (pool_rows p) (shown p) v whole new n (place_at led) leads)
 
--- the index after room was made and the names of a unit came, told from the index before
-pub put_led : (index room led : ObjId → Option Place) (n : ℕ) (u v : UnitView) → u ≡ v → ((q : ObjId) → led q ≡ led_by n (place_in u q) (room q)) → ((q : ObjId) → room q ≡ index q)
-    → (q : ObjId) → led q ≡ led_by n (place_in v q) (index q)
-put_led index room led n u v same set stays q = set q ∙ ap (λ (w : UnitView). led_by n (place_in w q) (room q)) same ∙ ap (led_by n (place_in v q)) (stays q)
+  pub put_rows : SameByOwner (slot_rows units.slots) (pool_rows p ++ v.rows)
+  put_rows = added_rows (place_at p.index) (pool_number p) next (get p.units) (get units) p.kept n v adds free whole (pool_rows p) (slot_rows units.slots) (shown p) (shown_rows (place_at led) next units.slots put_kept)
