@@ -355,7 +355,7 @@ enum Measured {
 }
 
 // The store of a word.
-fn measured(word: &str) -> Option<Measured> {
+fn store_of(word: &str) -> Option<Measured> {
     match word {
         "flat" => Some(Measured::Flat),
         "pools" => Some(Measured::Pools),
@@ -368,7 +368,7 @@ fn words<R: Env + AllocGlobal>(rt: &R) -> Option<(u32, Measured)> {
     let mut args = env::args(rt).ok()?;
     let _program = args.next()?;
     let count = args.next()?.parse::<u32>().ok()?;
-    let store = measured(args.next()?.as_str())?;
+    let store = store_of(args.next()?.as_str())?;
     Some((count, store))
 }
 
