@@ -9,8 +9,11 @@ use crate::place::Place;
 use lf_base::{ObjId, OutOfMemory};
 use std::alloc::Global;
 
-/// The places of names. The names of one behaviour that come in turn, from the first one
-/// on that was put while there were none, stand in a vector by their numbers.
+// The birth of no name that a run makes: the dense part takes none before it is started.
+const NO_BIRTH: u32 = 4_294_967_295;
+
+/// The places of names. The names of one behaviour that come in turn, from the one on at
+/// which the dense part was started, stand in a vector by their numbers.
 #[derive(Drop)]
 pub struct NameIndex {
     birth: u32,
@@ -25,7 +28,7 @@ impl NameIndex {
         ensures { (o : ObjId) → place_at result o ≡ None }
     {
         NameIndex {
-            birth: 0,
+            birth: NO_BIRTH,
             base: 0,
             own: Vec::new(alloc),
             others: OtherNames::new(alloc),
