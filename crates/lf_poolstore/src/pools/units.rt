@@ -79,7 +79,7 @@ impl Pools {
         ensures rows { SameByOwner (pool_rows self.new) (pool_rows self.old) }
         ensures room { LowersNone (pool_spare self.old) (pool_spare self.new) }
     {
-        if let Some(number) = self.owners.get(owner) {
+        if let Some(number) = self.owners.keep(owner) {
             return Ok(number);
         }
         let Owner::In(region) = owner else {
