@@ -7,6 +7,7 @@ pub mod AddedUnits
 pub mod FirstPools
 pub mod UnitSlots
 pub mod GivenRows
+pub mod GoneNames
 pub mod TakenUnits
 pub mod CellFields
 pub mod FieldPlaces

@@ -1,4 +1,4 @@
-ghost use Rattle.std.specs.Prelude.{◌≡◌, ◌<◌, ◌≤◌, ◌+◌, None, Some, OnOk, if◌then◌else◌};
+ghost use Rattle.std.specs.Prelude.{◌≡◌, ◌<◌, ◌≤◌, ◌+◌, None, Some, OnOk, false, if◌then◌else◌};
 ghost use Rattle.lf_base.specs.declared.ids.ObjId.{ObjId};
 ghost use Rattle.lf_base.specs.Names.{same_name};
 ghost use Rattle.lf_poolstore.specs.Index.{index_room, place_at};
@@ -92,5 +92,22 @@ impl NameIndex {
             }
         }
         self.others.put(o, place);
+    }
+
+    /// The place of a name whose row goes, or `NOWHERE`. What the dense part keeps of such
+    /// a name leads to no row.
+    #[inline(always)]
+    pub fn take(&mut self, o: ObjId) -> Place
+        ensures place { result ≡ place_or (place_at self.old o) }
+        ensures others { (q : ObjId) → same_name o q ≡ false → place_at self.new q ≡ place_at self.old q }
+        ensures room { index_room self.old ≤ index_room self.new }
+    {
+        if o.birth == self.birth && o.seq >= self.base {
+            let at = (o.seq - self.base) as usize;
+            if let Some(place) = self.own.get(at) {
+                return *place;
+            }
+        }
+        self.others.take(o)
     }
 }
