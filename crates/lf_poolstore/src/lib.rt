@@ -7,9 +7,11 @@
 //!
 //! A unit has its rows in a chain of a pool and their fields in chains of another one, so
 //! that a region's rows leave and come as one unit, and neighbours are linked by numbers.
-//! The index is dense for the rows that the store's behaviour makes one after the other. A
-//! call on a row looks its name up once; only what goes over a row's fields or a part's
-//! rows walks them. No memory is taken outside `new`, `reserve` and `part_in`.
+//! The index is dense for the rows that the store's behaviour makes one after the other; of
+//! other names it keeps those that have a row, and those that left with a part. A call on a
+//! row looks its name up once, and calls on one region after the other look its unit up
+//! once; only what goes over a row's fields or a part's rows walks them. No memory is taken
+//! outside `new`, `reserve` and `part_in`.
 #![tactic(auto)]
 
 mod name_index;

@@ -1,7 +1,7 @@
 ghost use Rattle.std.specs.Prelude.{◌≡◌, ◌<◌, ◌≤◌, ◌+◌, None, Some, OnOk, false, if◌then◌else◌};
 ghost use Rattle.lf_base.specs.declared.ids.ObjId.{ObjId};
 ghost use Rattle.lf_base.specs.Names.{same_name};
-ghost use Rattle.lf_poolstore.specs.Index.{index_room, place_at};
+ghost use Rattle.lf_poolstore.specs.Index.{index_room, own_at, place_at};
 ghost use Rattle.lf_poolstore.specs.Places.{place_or};
 
 use crate::other_names::OtherNames;
@@ -99,6 +99,7 @@ impl NameIndex {
     #[inline(always)]
     pub fn take(&mut self, o: ObjId) -> Place
         ensures place { result ≡ place_or (place_at self.old o) }
+        ensures gone { own_at self.old.birth self.old.base self.old.own.items o ≡ None → place_at self.new o ≡ None }
         ensures others { (q : ObjId) → same_name o q ≡ false → place_at self.new q ≡ place_at self.old q }
         ensures room { index_room self.old ≤ index_room self.new }
     {

@@ -67,6 +67,7 @@ impl OtherNames {
     #[inline(never)]
     pub fn take(&mut self, o: ObjId) -> Place
         ensures place { result ≡ place_or (other_at self.old.places o) }
+        ensures gone { other_at self.new.places o ≡ None }
         ensures others { (q : ObjId) → same_name o q ≡ false → other_at self.new.places q ≡ other_at self.old.places q }
         ensures room { spare self.old.places ≤ spare self.new.places }
     {
