@@ -15,6 +15,7 @@ pub mod Entries
 pub mod SeenUnits
 pub mod EntryLists
 pub mod MovedRows
+pub mod NarrowRows
 pub mod WholeUnits
 pub mod Written
 pub mod WrittenUnits

@@ -15,6 +15,7 @@
 #![tactic(auto)]
 
 mod name_index;
+mod narrow_row;
 mod other_names;
 mod owner_units;
 mod place;
@@ -25,6 +26,7 @@ mod unit;
 mod unit_row;
 
 pub use name_index::NameIndex;
+pub use narrow_row::NarrowRow;
 pub use place::Place;
 pub use pool_store::PoolStore;
 pub use pools::{PoolPart, Pools};

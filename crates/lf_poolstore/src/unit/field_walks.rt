@@ -44,7 +44,7 @@ fn cell_after(cells: &CellPool, first: u32, after: Option<Key>) -> u32
 
 // The field in a cell, and none in `NONE`.
 #[inline(always)]
-fn pair_of(cells: &CellPool, cell: u32) -> Option<(Key, Value)>
+pub(super) fn pair_of(cells: &CellPool, cell: u32) -> Option<(Key, Value)>
     requires { (x : ℕ) → node cell ≡ Some x → x < length cells.now.cells }
     ensures { result ≡ pair_by cells.now (node cell) }
 {
