@@ -21,8 +21,8 @@ use crate::unit::Unit;
 use lf_base::{ObjId, Owner};
 use slab::Slab;
 
-// Puts a row last under another unit that it was found to be, and drops it where it stands.
-// Gives its number there.
+// Lets a row with at most one field go last under another unit; neither unit leaves its
+// slot. Gives its number there.
 fn move_narrow(units: &mut Slab<Unit>, place: Place, row: NarrowRow, number: u32) -> u32
     requires { (o : Name) × (u : UnitView) × (t : UnitView) × (get units.old place.unit ≡ Some u) × (get units.old number ≡ Some t) × StandsAt u place.row o
         × (eqb place.unit number ≡ false) × IsNewName t.rows o × (room_for_row u.rows o ≤ t.spare) × (row.name ≡ o) × (row_named u.rows o ≡ Some (narrow_row u.owner row)) }

@@ -36,7 +36,7 @@ fn copied(cells: &mut CellPool, from: &CellPool, row: UnitRow) -> UnitRow
     now
 }
 
-// A row that shares no cells yet, with a field or none: the row that is to be kept.
+// Makes a row with one field or none: the row that is to be kept.
 #[inline(always)]
 fn seeded(cells: &mut CellPool, name: ObjId, refs: u64, field: Option<(Key, Value)>) -> UnitRow
     requires room { length (option_to_list field) ≤ cells.old.spare }
