@@ -1,12 +1,12 @@
-//! Measures the flat store: `lf_bench N` makes N rows, links each to the one before,
-//! gives all to a region, walks over them and drops them; then it gives one row N fields
+//! Measures a store: `lf_bench N flat` takes the flat store and `lf_bench N pools` the pool
+//! store. It makes N rows, links each to the one before, gives all to a region, walks over them and drops them; then it gives one row N fields
 //! and walks over these. Then it makes a map of N frozen rows by one call, and one by a
 //! thousand calls, and looks up as many names in each, in no order. Then a heap makes a chain
 //! of N objects, moves it into a region and lets that go, and does the same with one object of
 //! N fields. It writes the number of rows or fields of each step to standard output, and the
 //! time so far to standard error.
 //!
-//! It stands on `lf_trials`, by whose calls it works a store of `lf_graph`, makes maps of
+//! It stands on `lf_trials`, by whose calls it works a store of `lf_graph` or of `lf_poolstore`, makes maps of
 //! `lf_frozen` and calls a heap, so that it needs no proof of its own about rows.
 #![tactic(auto)]
 
@@ -16,6 +16,7 @@ use lf_base::{HeapFail, Key, ObjId, OutOfMemory, Owner, Steps, Value};
 use lf_frozen::FrozenMap;
 use lf_graph::{FlatStore, Store};
 use lf_heap::Heap;
+use lf_poolstore::PoolStore;
 use lf_trials::frozen_maps::made;
 use lf_trials::heap_calls::{HeapCall, heap_after, make_call};
 use lf_trials::trials::{
@@ -346,20 +347,41 @@ fn measure<S: Store, L: Ledger, R: Print + Eprint + Clock + AllocGlobal>(
     measure_heap::<S, L, R>(rt, count, &start, &mut steps)
 }
 
-// The number of rows: the first argument.
-fn count<R: Env + AllocGlobal>(rt: &R) -> Option<u32> {
-    let args = env::args(rt).ok()?;
-    for arg in args.skip(1) {
-        return arg.parse::<u32>().ok();
+// The store that is measured.
+#[derive(Clone, Copy)]
+enum Measured {
+    Flat,
+    Pools,
+}
+
+// The store of a word.
+fn store_of(word: &str) -> Option<Measured> {
+    match word {
+        "flat" => Some(Measured::Flat),
+        "pools" => Some(Measured::Pools),
+        _ => None,
     }
-    None
+}
+
+// The number of rows and the store: the first two arguments.
+fn words<R: Env + AllocGlobal>(rt: &R) -> Option<(u32, Measured)> {
+    let mut args = env::args(rt).ok()?;
+    let _program = args.next()?;
+    let count = args.next()?.parse::<u32>().ok()?;
+    let store = store_of(args.next()?.as_str())?;
+    Some((count, store))
 }
 
 fn main(rt: HostRuntime) -> ExitCode {
-    let Some(count) = count(&rt) else {
+    let Some((count, store)) = words(&rt) else {
         return ExitCode::from(2);
     };
-    match measure::<FlatStore, Brand, _>(&rt, count, Blank::new(1)) {
+    let blank = Blank::new(1);
+    let done = match store {
+        Measured::Flat => measure::<FlatStore, Brand, _>(&rt, count, blank),
+        Measured::Pools => measure::<PoolStore, Brand, _>(&rt, count, blank),
+    };
+    match done {
         Ok(()) => ExitCode::SUCCESS,
         Err(_error) => ExitCode::FAILURE,
     }

@@ -7,3 +7,4 @@ pub mod Finds
 pub mod Cuts
 pub mod Unlinks
 pub mod TwoCells
+pub mod Places

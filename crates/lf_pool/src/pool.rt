@@ -1,4 +1,5 @@
 mod calls;
+mod walks;
 
 use crate::cell::Cell;
 use std::marker::Model;

@@ -14,7 +14,6 @@ use Rattle.lf_base.specs.WriteResult.{put_field}
 use Rattle.lf_pool.specs.declared.cell.Cell.{Cell}
 use Rattle.lf_base.specs.Names.{same_key}
 use Rattle.lf_base.specs.TakeResult.{drop_field, field_at}
-use Rattle.lf_pool.specs.declared.cell.TheConstants.{NONE}
 use Rattle.lf_base.specs.Links.{walk}
 use Rattle.lf_pool.specs.Cells.{IsChain, item_at, link_at, node}
 use Rattle.lf_pool.specs.Fields.{first_with, is_keyed}
@@ -22,24 +21,11 @@ use Rattle.lf_pool.specs.Pools.{Chain, IsLeft}
 use Rattle.lf_pool.proofs.Joins.{chain_in_range, some_is}
 use Rattle.lf_poolstore.specs.RowLists.{numbers}
 use Rattle.lf_poolstore.specs.Units.{FieldPool, items_in, pair_by}
+use Rattle.lf_pool.proofs.Places.{apart_of_member, member_apart}
 use Rattle.lf_poolstore.proofs.RowLists.{as_chain, node_same, walk_none}
 
 abbrev pub pair : Key → Value → Key × Value
 pair k v = (k, v)
-
--- a member of a list is none of those that the list lacks
-pub member_apart : (x q : ℕ) (xs : List ℕ) → has eqb q xs ≡ true → Lacks eqb x xs → eqb x q ≡ false
-member_apart x q [] h l = absurd (cc h)
-member_apart x q (y ∷ ys) h l = elim (eqb q y) as (λ b. eqb q y ≡ b → (b || has eqb q ys) ≡ true → eqb x q ≡ false) [
-  | true ↦ λ e _. ap (eqb x) ((Decides-eqb q y).0 e) ∙ l.0
-  | false ↦ λ _ g. member_apart x q ys g l.1
-] refl h
-
-pub apart_of_member : (q x : ℕ) (xs : List ℕ) → has eqb q xs ≡ true → Lacks eqb x xs → eqb q x ≡ false
-apart_of_member q x xs h l = elim (eqb q x) as (λ b. eqb q x ≡ b → b ≡ false) [
-  | true ↦ λ e. let k : eqb x q ≡ true = (Decides-eqb x q).1 (sym ((Decides-eqb q x).0 e)) in let n = member_apart x q xs h l in cc (k, n)
-  | false ↦ λ _. refl
-] refl
 
 -- the value of the field in a cell, where there is one
 abbrev pub value_in : FieldPool → Option ℕ → Option Value
@@ -74,9 +60,6 @@ found_in_range cells k first xs x l h = chain_in_range cells.cells xs x l.chain 
 pub cells_there : (cells : FieldPool) (first : ℕ) (xs : List ℕ) → IsLeft cells (node first) xs → node first ≡ Some first → Chain cells first xs
 cells_there cells first [] l e = let n : None ≡ Some first = l.begins ∙ e in cc
 cells_there cells first (x ∷ xs) l e = subst (λ y. Chain cells y (x ∷ xs)) (sym (node_same first x (sym l.begins))) (as_chain cells first x xs l)
-
-pub no_number : (n : ℕ) → n ≡ NONE → node n ≡ None
-no_number n e = ap (λ b. cond b None (Some n)) ((Decides-eqb n NONE).1 e)
 
 pub none_found : (cells : FieldPool) (k : Key) (first : ℕ) → node first ≡ None → None ≡ first_with cells.cells k (numbers cells first)
 none_found cells k first e =

@@ -1,32 +1,18 @@
 -- Fields of a row by their place.
-use Rattle.std.proofs.Common.{◌≡◌, ℕ, true, cond, ◌≤◌, ◌<◌, List, [], ◌∷◌, length, slice_get, Some, None, refl, ap, sym, ◌∙◌, zero, suc, arith, ◌||◌}
+use Rattle.std.proofs.Common.{◌≡◌, ℕ, true, ◌<◌, List, [], ◌∷◌, length, slice_get, Some, refl, ap, sym, ◌∙◌, zero, suc, ◌||◌}
 use Rattle.std.specs.Prelude.{eqb}
 use Rattle.std.specs.List.{cons_option}
 use Rattle.std.proofs.Math.Bool.{or-true}
 use Rattle.std.proofs.lemmas.Bool.Decides.{Decides-eqb}
 use Rattle.lf_base.specs.declared.values.Key.{Key}
 use Rattle.lf_base.specs.declared.values.Value.{Value}
-use Rattle.lf_base.specs.Links.{NodesDiffer, after, has, head_or}
-use Rattle.lf_base.proofs.ListLemmas.LinkedLists.{first_is, has-at}
+use Rattle.lf_base.specs.Links.{has}
+use Rattle.lf_base.proofs.ListLemmas.LinkedLists.{has-at}
 use Rattle.lf_pool.specs.Cells.{item_at, node}
 use Rattle.lf_pool.specs.Pools.{IsLeft}
-use Rattle.lf_pool.proofs.Joins.{chain_in_range, some_is}
+use Rattle.lf_pool.proofs.Joins.{chain_in_range}
 use Rattle.lf_poolstore.specs.Units.{FieldPool, items_in, pair_by}
-use Rattle.lf_poolstore.proofs.CellFields.{apart_of_member, item_there}
-
--- the cell behind the one at a place
-pub after_at : (xs : List ℕ) (x : ℕ) (i : ℕ) → NodesDiffer eqb xs → slice_get xs i ≡ Some x → after eqb x xs ≡ slice_get xs (suc i)
-after_at [] x i d e = cc
-after_at (y ∷ ys) x zero d e = ap (λ b. cond b (head_or ys None) (after eqb x ys)) ((Decides-eqb x y).1 (sym (some_is y x e))) ∙ sym (first_is ys)
-after_at (y ∷ ys) x (suc i) d e =
-    ap (λ b. cond b (head_or ys None) (after eqb x ys)) (apart_of_member x y ys (has-at eqb Decides-eqb ys i x e) d.0) ∙ after_at ys x i d.1 e
-
--- nothing stands past the end
-pub past_end : (xs : List ℕ) (i j : ℕ) → slice_get xs i ≡ None → i ≤ j → slice_get xs j ≡ None
-past_end [] i j e l = refl
-past_end (y ∷ ys) zero j e l = cc
-past_end (y ∷ ys) (suc i) zero e l = absurd (omega (arith, l))
-past_end (y ∷ ys) (suc i) (suc j) e l = past_end ys i j e (omega (arith, l))
+use Rattle.lf_poolstore.proofs.CellFields.{item_there}
 
 -- the field at a place is the one in the cell at that place
 pub pair_at : (m : FieldPool) (xs : List ℕ) (i : ℕ) → ((q : ℕ) → has eqb q xs ≡ true → q < length m.cells) → pair_by m (slice_get xs i) ≡ slice_get (items_in m xs) i

@@ -7,6 +7,7 @@ pub mod AddedUnits
 pub mod FirstPools
 pub mod UnitSlots
 pub mod GivenRows
+pub mod GoneNames
 pub mod TakenUnits
 pub mod CellFields
 pub mod FieldPlaces
@@ -14,6 +15,9 @@ pub mod Entries
 pub mod SeenUnits
 pub mod EntryLists
 pub mod MovedRows
+pub mod NarrowRows
 pub mod WholeUnits
 pub mod Written
 pub mod WrittenUnits
+pub mod UnitPlaces
+pub mod PartUnits

@@ -23,7 +23,7 @@ use Rattle.lf_poolstore.specs.Units.{Apart, FieldPool, IsUnit, KeepsFields, Keep
 use Rattle.lf_poolstore.proofs.Entries.{Agree, Entries, row_found}
 use Rattle.lf_poolstore.proofs.EntryLists.{bare_row, lacks_without, no_numbers, left_rows, left_unit, more_places, more_unit, without_found, without_places}
 use Rattle.lf_poolstore.proofs.CellFields.{items_more}
-use Rattle.lf_poolstore.proofs.FieldPlaces.{after_at}
+use Rattle.lf_pool.proofs.Places.{after_at}
 use Rattle.lf_poolstore.proofs.RowLists.{entry, node_same}
 use Rattle.lf_graph.proofs.ListLemmas.{take_next}
 use Rattle.lf_base.proofs.ListLemmas.LinkedLists.{first_is}

@@ -5,3 +5,4 @@ pub mod RowLists
 pub mod Units
 pub mod Pools
 pub mod PoolViews
+pub mod NarrowRows

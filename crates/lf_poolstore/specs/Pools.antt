@@ -48,6 +48,11 @@ spare_by names (Some u) = min names u.spare
 abbrev pub place_of : ℕ → ℕ → Place
 place_of n x = record { unit = n; row = x }
 
+-- a name's place in the unit of number n, or else the one of before
+abbrev pub led_by : ℕ → Option ℕ → Option Place → Option Place
+led_by n None before = before
+led_by n (Some x) before = Some (place_of n x)
+
 -- the number of an owner's unit: that of local rows, that of frozen rows, or that of a region
 abbrev pub number_of : {S : Type 0} → ℕ → ℕ → HashMap ObjId ℕ S → Numbers
 number_of local frozen regions Local = Some local

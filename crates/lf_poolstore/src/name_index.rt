@@ -1,7 +1,7 @@
-ghost use Rattle.std.specs.Prelude.{◌≡◌, ◌<◌, ◌≤◌, ◌+◌, None, Some, OnOk, if◌then◌else◌};
+ghost use Rattle.std.specs.Prelude.{◌≡◌, ◌<◌, ◌≤◌, ◌+◌, None, Some, OnOk, false, if◌then◌else◌};
 ghost use Rattle.lf_base.specs.declared.ids.ObjId.{ObjId};
 ghost use Rattle.lf_base.specs.Names.{same_name};
-ghost use Rattle.lf_poolstore.specs.Index.{index_room, place_at};
+ghost use Rattle.lf_poolstore.specs.Index.{index_room, own_at, place_at};
 ghost use Rattle.lf_poolstore.specs.Places.{place_or};
 
 use crate::other_names::OtherNames;
@@ -9,8 +9,11 @@ use crate::place::Place;
 use lf_base::{ObjId, OutOfMemory};
 use std::alloc::Global;
 
-/// The places of names. The names of one behaviour that come in turn, from the first one
-/// on that was put while there were none, stand in a vector by their numbers.
+// The birth of no name that a run makes: the dense part takes none before it is started.
+const NO_BIRTH: u32 = 4_294_967_295;
+
+/// The places of names. The names of one behaviour that come in turn, from the one on at
+/// which the dense part was started, stand in a vector by their numbers.
 #[derive(Drop)]
 pub struct NameIndex {
     birth: u32,
@@ -25,7 +28,7 @@ impl NameIndex {
         ensures { (o : ObjId) → place_at result o ≡ None }
     {
         NameIndex {
-            birth: 0,
+            birth: NO_BIRTH,
             base: 0,
             own: Vec::new(alloc),
             others: OtherNames::new(alloc),
@@ -89,5 +92,23 @@ impl NameIndex {
             }
         }
         self.others.put(o, place);
+    }
+
+    /// The place of a name whose row goes, or `NOWHERE`. What the dense part keeps of such
+    /// a name leads to no row.
+    #[inline(always)]
+    pub fn take(&mut self, o: ObjId) -> Place
+        ensures place { result ≡ place_or (place_at self.old o) }
+        ensures gone { own_at self.old.birth self.old.base self.old.own.items o ≡ None → place_at self.new o ≡ None }
+        ensures others { (q : ObjId) → same_name o q ≡ false → place_at self.new q ≡ place_at self.old q }
+        ensures room { index_room self.old ≤ index_room self.new }
+    {
+        if o.birth == self.birth && o.seq >= self.base {
+            let at = (o.seq - self.base) as usize;
+            if let Some(place) = self.own.get(at) {
+                return *place;
+            }
+        }
+        self.others.take(o)
     }
 }

@@ -1,4 +1,4 @@
-ghost use Rattle.std.specs.Prelude.{◌≡◌, ◌<◌, ◌≤◌, ◌+◌, None, Some, OnOk, if◌then◌else◌};
+ghost use Rattle.std.specs.Prelude.{◌≡◌, ◌<◌, ◌≤◌, ◌+◌, None, Some, OnOk, false, if◌then◌else◌};
 ghost use Rattle.std.proofs.Props.{props};
 ghost use Rattle.std.specs.HashMap.{IsUnique, spare};
 ghost use Rattle.lf_base.specs.declared.ids.ObjId.{ObjId};
@@ -60,6 +60,20 @@ impl OtherNames {
         match self.places.insert(o, place) {
             Ok(_old) => {}
             Err(_refused) => unreachable!(),
+        }
+    }
+
+    /// Takes the place of a name out, or gives `NOWHERE`.
+    #[inline(never)]
+    pub fn take(&mut self, o: ObjId) -> Place
+        ensures place { result ≡ place_or (other_at self.old.places o) }
+        ensures gone { other_at self.new.places o ≡ None }
+        ensures others { (q : ObjId) → same_name o q ≡ false → other_at self.new.places q ≡ other_at self.old.places q }
+        ensures room { spare self.old.places ≤ spare self.new.places }
+    {
+        match self.places.remove(&o) {
+            Some(place) => place,
+            None => NOWHERE,
         }
     }
 }

@@ -1,6 +1,6 @@
 ghost use Rattle.std.specs.Prelude.{◌≡◌, ◌<◌, Some, None, OnOk, if◌then◌else◌};
 ghost use Rattle.std.proofs.Props.{props};
-ghost use Rattle.std.specs.HashMap.{IsUnique, spare};
+ghost use Rattle.std.specs.HashMap.{IsUnique, get, spare};
 ghost use Rattle.lf_base.specs.declared.ids.ObjId.{ObjId};
 ghost use Rattle.lf_base.specs.declared.values.Owner.{Owner as OwnerOf};
 ghost use Rattle.lf_base.specs.declared.values.Owner.TheVariants.{In};
@@ -12,13 +12,17 @@ use std::alloc::Global;
 use std::collections::HashMap;
 
 /// The number of each owner's unit: one for local rows, one for frozen rows, and those of
-/// regions.
+/// regions. What the map says of one region is kept beside it, as calls on one region
+/// mostly follow each other.
 #[derive(Drop)]
 pub struct OwnerUnits {
     local: u32,
     frozen: u32,
     regions: HashMap<ObjId, u32>,
+    last: ObjId,
+    last_unit: Option<u32>,
     ghost unique: { IsUnique same_name regions } by { Prim.hlevel props },
+    ghost kept: { get same_name regions last ≡ last_unit } by { Prim.hlevel props },
 }
 
 impl OwnerUnits {
@@ -30,6 +34,8 @@ impl OwnerUnits {
             local,
             frozen,
             regions: HashMap::new(alloc),
+            last: ObjId { birth: 0, seq: 0 },
+            last_unit: None,
         }
     }
 
@@ -40,9 +46,28 @@ impl OwnerUnits {
     {
         match owner {
             Owner::Local => Some(self.local),
-            Owner::In(region) => self.of_region(region),
+            Owner::In(region) => {
+                if region.is_same(self.last) {
+                    return self.last_unit;
+                }
+                self.of_region(region)
+            }
             Owner::Frozen => Some(self.frozen),
         }
+    }
+
+    /// The same, and keeps it beside the map.
+    #[inline(always)]
+    pub fn keep(&mut self, owner: Owner) -> Option<u32>
+        ensures number { result ≡ number_of self.old.local self.old.frozen self.old.regions owner }
+        ensures numbers { (w : OwnerOf) → number_of self.new.local self.new.frozen self.new.regions w ≡ number_of self.old.local self.old.frozen self.old.regions w }
+    {
+        let number = self.get(owner);
+        if let Owner::In(region) = owner {
+            self.last = region;
+            self.last_unit = number;
+        }
+        number
     }
 
     #[inline(never)]
@@ -69,7 +94,10 @@ impl OwnerUnits {
         ensures { (w : OwnerOf) → number_of self.new.local self.new.frozen self.new.regions w ≡ (if same_owner (In region) w then Some unit else number_of self.old.local self.old.frozen self.old.regions w) }
     {
         match self.regions.insert(region, unit) {
-            Ok(_old) => {}
+            Ok(_old) => {
+                self.last = region;
+                self.last_unit = Some(unit);
+            }
             Err(_refused) => unreachable!(),
         }
     }
@@ -79,5 +107,7 @@ impl OwnerUnits {
         ensures { (w : OwnerOf) → number_of self.new.local self.new.frozen self.new.regions w ≡ (if same_owner (In region) w then None else number_of self.old.local self.old.frozen self.old.regions w) }
     {
         let _number = self.regions.remove(&region);
+        self.last = region;
+        self.last_unit = None;
     }
 }

@@ -5,12 +5,14 @@ ghost use Rattle.lf_poolstore.specs.Pools.{ArePools, number_of};
 
 mod changes;
 mod owners;
+mod parts;
 mod reads;
 mod units;
 
 use crate::name_index::NameIndex;
 use crate::owner_units::OwnerUnits;
 use crate::unit::Unit;
+pub use parts::PoolPart;
 use slab::Slab;
 use std::alloc::Global;
 

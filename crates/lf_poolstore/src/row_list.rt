@@ -5,6 +5,8 @@ ghost use Rattle.lf_pool.specs.Pools.{Chain, IsLeft};
 ghost use Rattle.lf_poolstore.specs.RowLists.{entry_at, moved_entry, name_by, with_entry, without_entry};
 ghost use Rattle.lf_poolstore.specs.UnitRows.{is_live};
 
+mod walks;
+
 use crate::unit_row::UnitRow;
 use lf_base::{ObjId, OutOfMemory};
 use lf_pool::{NONE, Pool};

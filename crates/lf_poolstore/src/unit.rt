@@ -2,6 +2,7 @@ mod changes;
 mod field_walks;
 mod fields;
 mod moves;
+mod parts;
 mod reads;
 
 use crate::row_list::RowList;

@@ -2,7 +2,7 @@
 //! regions, of the counts that both keep of edges, of settling, of the write barrier, of
 //! regions that change hands, and of maps of frozen rows and of heaps.
 //!
-//! It stands on `lf_heap`, `lf_transfer`, `lf_barrier`, `lf_settle`, `lf_domain`, `lf_graph`, `lf_regions`, `lf_frozen`, `lf_laws` and `lf_base`. `trials` has calls of any store
+//! It stands on `lf_heap`, `lf_transfer`, `lf_barrier`, `lf_settle`, `lf_domain`, `lf_graph`, `lf_poolstore`, `lf_regions`, `lf_frozen`, `lf_laws` and `lf_base`. `trials` has calls of any store
 //! that ask for nothing, and `cases` drives them by a table: `failed_case` names the first
 //! case that a store fails. A new store is added to `store_tests`, with one test.
 #![tactic(auto)]

@@ -1,4 +1,4 @@
-ghost use Rattle.std.specs.Prelude.{◌≡◌, ◌≢◌, ◌<◌, ◌≤◌, ◌+◌, ◌++◌, ◌∷◌, [], ℕ, List, OnOk, Some, eqb, false, length, true};
+ghost use Rattle.std.specs.Prelude.{◌≡◌, ◌≢◌, ◌<◌, ◌≤◌, ◌+◌, ◌++◌, ◌∷◌, [], ℕ, List, OnOk, Some, eqb, false, length, slice_get, true};
 ghost use Rattle.lf_base.specs.Links.{after, has, without};
 ghost use Rattle.lf_base.specs.declared.values.Key.{Key};
 ghost use Rattle.lf_base.specs.declared.values.Value.{Value};
@@ -124,6 +124,15 @@ impl CellPool {
         ensures { (xs : List ℕ) → IsChain (link_at self.now.cells) xs → has eqb cell xs ≡ true → node result ≡ after eqb cell xs }
     {
         self.pool.next(cell)
+    }
+
+    /// The cell at a place of the chain from one on, which may be empty, counted from 0, or
+    /// `NONE` past its end.
+    pub fn cell_at(&self, first: u32, place: u32) -> u32
+        requires { (xs : List ℕ) × IsLeft self.now (node first) xs }
+        ensures { (xs : List ℕ) → IsLeft self.now (node first) xs → node result ≡ slice_get xs place }
+    {
+        self.pool.cell_at(first, place)
     }
 
     /// The key and the value of a cell.

@@ -79,7 +79,7 @@ impl Pools {
         ensures rows { SameByOwner (pool_rows self.new) (without_row (pool_rows self.old) o) }
         ensures room { LowersNone (pool_spare self.old) (pool_spare self.new) }
     {
-        let place = self.index.get(o);
+        let place = self.index.take(o);
         let Some(unit) = self.units.get_mut(place.unit as usize) else {
             unreachable!()
         };

@@ -4,7 +4,8 @@ ghost use Rattle.std.specs.Prelude.{◌≡◌, ◌≤◌, Some, eqb, false};
 ghost use Rattle.lf_base.specs.declared.ids.ObjId.{ObjId as Name};
 ghost use Rattle.lf_graph.specs.Room.{LowersAtMost, LowersNone, room_for_row};
 ghost use Rattle.lf_graph.specs.RowChanges.{moved_last, with_new_row};
-ghost use Rattle.lf_graph.specs.StoredRows.{HasRow, IsNewName, SameByOwner};
+ghost use Rattle.lf_graph.specs.StoredRows.{HasRow, IsNewName, SameByOwner, row_named};
+ghost use Rattle.lf_poolstore.specs.NarrowRows.{narrow_row};
 ghost use Rattle.slab.specs.Slab.{get};
 ghost use Rattle.lf_poolstore.specs.Index.{place_at};
 ghost use Rattle.lf_poolstore.specs.Places.{place_or};
@@ -12,11 +13,32 @@ ghost use Rattle.lf_poolstore.specs.Pools.{MovesRow};
 ghost use Rattle.lf_poolstore.specs.Units.{StandsAt, UnitView};
 ghost use Rattle.lf_poolstore.specs.PoolViews.{pool_number, pool_rows, pool_spare};
 
+use crate::narrow_row::NarrowRow;
 use crate::place::Place;
 use crate::pools::Pools;
+use crate::pools::reads::unit_at;
 use crate::unit::Unit;
 use lf_base::{ObjId, Owner};
 use slab::Slab;
+
+// Lets a row with at most one field go last under another unit; neither unit leaves its
+// slot. Gives its number there.
+fn move_narrow(units: &mut Slab<Unit>, place: Place, row: NarrowRow, number: u32) -> u32
+    requires { (o : Name) × (u : UnitView) × (t : UnitView) × (get units.old place.unit ≡ Some u) × (get units.old number ≡ Some t) × StandsAt u place.row o
+        × (eqb place.unit number ≡ false) × IsNewName t.rows o × (room_for_row u.rows o ≤ t.spare) × (row.name ≡ o) × (row_named u.rows o ≡ Some (narrow_row u.owner row)) }
+    ensures { (o : Name) → (u : UnitView) → (t : UnitView) → get units.old place.unit ≡ Some u → get units.old number ≡ Some t → StandsAt u place.row o → row.name ≡ o
+        → row_named u.rows o ≡ Some (narrow_row u.owner row) → MovesRow (get units.old) (get units.new) place.unit number u t o result }
+{
+    let Some(to) = units.get_mut(number as usize) else {
+        unreachable!()
+    };
+    let at = to.push_narrow(row);
+    let Some(from) = units.get_mut(place.unit as usize) else {
+        unreachable!()
+    };
+    from.remove(place.row);
+    at
+}
 
 // Lets a row go last under another unit. Gives its number there.
 fn move_row(units: &mut Slab<Unit>, place: Place, number: u32) -> u32
@@ -25,6 +47,9 @@ fn move_row(units: &mut Slab<Unit>, place: Place, number: u32) -> u32
     ensures { (o : Name) → (u : UnitView) → (t : UnitView) → get units.old place.unit ≡ Some u → get units.old number ≡ Some t → StandsAt u place.row o
         → MovesRow (get units.old) (get units.new) place.unit number u t o result }
 {
+    if let Some(row) = unit_at(units, place.unit).narrow(place.row) {
+        return move_narrow(units, place, row, number);
+    }
     let Some(mut to) = units.try_remove(number as usize) else {
         unreachable!()
     };

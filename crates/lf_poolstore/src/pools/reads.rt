@@ -15,7 +15,7 @@ use slab::Slab;
 
 // The unit of a number.
 #[inline(always)]
-fn unit_at(units: &Slab<Unit>, number: u32) -> &Unit
+pub(super) fn unit_at(units: &Slab<Unit>, number: u32) -> &Unit
     requires { IsSome (get units.now number) }
     ensures { get units.now number ≡ Some result.now }
 {

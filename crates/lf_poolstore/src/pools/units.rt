@@ -17,7 +17,7 @@ use slab::Slab;
 use std::alloc::Global;
 
 // Adds a region's unit, or hands it back.
-fn enter(
+pub(super) fn enter(
     units: &mut Slab<Unit>,
     owners: &mut OwnerUnits,
     region: ObjId,
@@ -79,7 +79,7 @@ impl Pools {
         ensures rows { SameByOwner (pool_rows self.new) (pool_rows self.old) }
         ensures room { LowersNone (pool_spare self.old) (pool_spare self.new) }
     {
-        if let Some(number) = self.owners.get(owner) {
+        if let Some(number) = self.owners.keep(owner) {
             return Ok(number);
         }
         let Owner::In(region) = owner else {
@@ -108,10 +108,11 @@ impl Pools {
     }
 
     // Takes a region's unit out, where it has one.
-    fn take_unit(&mut self, region: ObjId) -> Option<Unit>
+    pub(super) fn take_unit(&mut self, region: ObjId) -> Option<Unit>
         ensures owner { IfSome result (λ u. u.owner ≡ In region) }
         ensures unit { IfSome result (λ u. u.rows ≡ rows_of (In region) (pool_rows self.old)) }
         ensures none { IfNone result (rows_of (In region) (pool_rows self.old) ≡ []) }
+        ensures free { pool_number self.new (In region) ≡ None }
         ensures rows { SameByOwner (pool_rows self.new) (rows_outside (In region) (pool_rows self.old)) }
     {
         let Some(number) = self.owners.get(Owner::In(region)) else {

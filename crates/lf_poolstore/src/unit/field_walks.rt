@@ -42,24 +42,9 @@ fn cell_after(cells: &CellPool, first: u32, after: Option<Key>) -> u32
     }
 }
 
-// The cell at a place among the cells from one on, or `NONE`.
-fn cell_at(cells: &CellPool, first: u32, place: u32) -> u32
-    requires { IsLeft cells.now (node first) (numbers cells.now first) }
-    ensures { node result ≡ slice_get (numbers cells.now first) place }
-{
-    let mut cell = first;
-    for _step in 0..place {
-        if cell == NONE {
-            return NONE;
-        }
-        cell = cells.behind(cell);
-    }
-    cell
-}
-
 // The field in a cell, and none in `NONE`.
 #[inline(always)]
-fn pair_of(cells: &CellPool, cell: u32) -> Option<(Key, Value)>
+pub(super) fn pair_of(cells: &CellPool, cell: u32) -> Option<(Key, Value)>
     requires { (x : ℕ) → node cell ≡ Some x → x < length cells.now.cells }
     ensures { result ≡ pair_by cells.now (node cell) }
 {
@@ -86,7 +71,7 @@ impl Unit {
         requires { (o : Name) × StandsAt self.now at o }
         ensures { (o : Name) → StandsAt self.now at o → result ≡ slice_get (fields_at self.now.rows o) place }
     {
-        let cell = cell_at(&self.cells, self.rows.row(at).fields, place);
+        let cell = self.cells.cell_at(self.rows.row(at).fields, place);
         pair_of(&self.cells, cell)
     }
 }

@@ -1,6 +1,6 @@
 //! Rows that change their place.
 
-ghost use Rattle.std.specs.Prelude.{◌≡◌, ◌≤◌, ◌+◌, ◌++◌, ◌∷◌, [], None, Some, if◌then◌else◌};
+ghost use Rattle.std.specs.Prelude.{◌≡◌, ◌≤◌, ◌+◌, ◌++◌, ◌∷◌, [], None, Some, IfSome, if◌then◌else◌, length, option_to_list};
 ghost use Rattle.lf_base.specs.declared.ids.ObjId.{ObjId as Name};
 ghost use Rattle.lf_base.specs.Names.{same_name};
 ghost use Rattle.lf_graph.specs.Room.{room_for_row};
@@ -8,10 +8,14 @@ ghost use Rattle.lf_graph.specs.RowChanges.{moved_last, moved_under, without_row
 ghost use Rattle.lf_graph.specs.StoredRows.{IsNewName, row_named};
 ghost use Rattle.lf_poolstore.specs.UnitRows.{bare};
 ghost use Rattle.lf_poolstore.specs.Units.{IsWhole, KeepsFields, KeepsRow, StandsAt, Writes, fields_of, place_in};
+ghost use Rattle.lf_poolstore.specs.NarrowRows.{narrow_row};
 
+use crate::narrow_row::NarrowRow;
 use crate::unit::Unit;
+use crate::unit::field_walks::pair_of;
 use crate::unit::fields::added;
 use crate::unit_row::UnitRow;
+use lf_base::{Key, ObjId, Value};
 use lf_pool::CellPool;
 
 // Copies the fields of a row from other cells: the row that is to be kept.
@@ -32,7 +36,56 @@ fn copied(cells: &mut CellPool, from: &CellPool, row: UnitRow) -> UnitRow
     now
 }
 
+// Makes a row with one field or none: the row that is to be kept.
+#[inline(always)]
+fn seeded(cells: &mut CellPool, name: ObjId, refs: u64, field: Option<(Key, Value)>) -> UnitRow
+    requires room { length (option_to_list field) ≤ cells.old.spare }
+    ensures name { result.name ≡ name }
+    ensures refs { result.refs ≡ refs }
+    ensures written { Writes cells.old cells.new (bare result) result (option_to_list field) }
+    ensures room { cells.old.spare ≡ cells.new.spare + length (option_to_list field) }
+{
+    let row = UnitRow::new(name, refs);
+    match field {
+        Some((key, value)) => added(cells, row, key, value),
+        None => row,
+    }
+}
+
 impl Unit {
+    /// The row at a number, where it has at most one field.
+    #[inline(always)]
+    pub fn narrow(&self, at: u32) -> Option<NarrowRow>
+        requires there { (o : Name) × StandsAt self.now at o }
+        ensures name { (o : Name) → StandsAt self.now at o → IfSome result (λ n. n.name ≡ o) }
+        ensures row { (o : Name) → StandsAt self.now at o → IfSome result (λ n. row_named self.now.rows o ≡ Some (narrow_row self.now.owner n)) }
+    {
+        let row = self.rows.row(at);
+        if row.width > 1 {
+            return None;
+        }
+        Some(NarrowRow {
+            name: row.name,
+            refs: row.refs,
+            field: pair_of(&self.cells, row.fields),
+        })
+    }
+
+    /// Puts a row of a new name last, with at most one field, and gives its number.
+    #[inline(always)]
+    pub fn push_narrow(&mut self, row: NarrowRow) -> u32
+        requires new { IsNewName self.old.rows row.name }
+        requires room { 1 + length (option_to_list row.field) ≤ self.old.spare }
+        ensures owner { self.new.owner ≡ self.old.owner }
+        ensures whole { IsWhole self.new }
+        ensures rows { self.new.rows ≡ self.old.rows ++ narrow_row self.old.owner row ∷ [] }
+        ensures places { (q : Name) → place_in self.new q ≡ (if same_name row.name q then Some result else place_in self.old q) }
+        ensures room { self.old.spare ≤ self.new.spare + (1 + length (option_to_list row.field)) }
+    {
+        let now = seeded(&mut self.cells, row.name, row.refs, row.field);
+        self.rows.push(now)
+    }
+
     /// Lets the row at a number come last.
     pub fn move_last(&mut self, at: u32)
         requires there { (o : Name) × StandsAt self.old at o }

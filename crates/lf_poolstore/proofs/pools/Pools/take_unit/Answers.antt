@@ -1,8 +1,9 @@
-use Rattle.std.proofs.Common.{[], Some, subst, sym, ◌∙◌, ◌≡◌}
+use Rattle.std.proofs.Common.{[], None, Some, ap, cond, subst, sym, ◌∙◌, ◌≡◌}
 use Rattle.std.specs.Option.{IfNone, IfSome}
 use Rattle.slab.specs.Slab.{get}
 use Rattle.lf_base.specs.declared.values.Owner.TheVariants.{In}
 use Rattle.lf_graph.specs.StoredRows.{rows_of}
+use Rattle.lf_graph.proofs.Stores.Reordered.{same_owner_itself}
 use Rattle.lf_poolstore.specs.Index.{place_at}
 use Rattle.lf_poolstore.specs.Pools.{number_of}
 use Rattle.lf_poolstore.specs.PoolViews.{pool_number, pool_rows}
@@ -26,6 +27,14 @@ invariant_of-self c =
     let next = number_of c.remove.new.self.local c.remove.new.self.frozen c.remove.new.self.regions in
     let out = c.try_remove.new.self in
     record { kept = taken_kept (place_at p.index) (pool_number p) next (get p.units) (get out) p.kept region c.in-Some.number number c.try_remove.ensures.updates.changed c.try_remove.ensures.updates.others c.remove.ensures }
+
+pub returns-in_default-clause-free : goal.returns-in_default-clause-free
+returns-in_default-clause-free c = sym c.get.ensures ∙ c.in_default.is
+
+pub returns-clause-free : goal.returns-clause-free
+returns-clause-free c =
+    let region = In c.args.region in
+    c.remove.ensures region ∙ ap (λ b. cond b None (pool_number c.args.self.now region)) (same_owner_itself region)
 
 pub returns-clause-owner : goal.returns-clause-owner
 returns-clause-owner c =

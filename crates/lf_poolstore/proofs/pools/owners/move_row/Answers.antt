@@ -12,15 +12,15 @@ returns c o u t at_u at_t stands =
     let n = c.args.place.unit in
     let k = c.args.number in
     let a = c.in-Some-get_mut.from.now in
-    let b = c.in-Some.to in
+    let b = c.in-Some-try_remove.to in
     let before = c.args.units.now in
     let out = c.try_remove.new.self in
     let back = c.insert_reserved-number.new.self in
     let here : get out n ≡ Some a = sym c.get_mut.ensures.value ∙ ap option_copied_mut c.in-Some-get_mut.is in
-    let key : c.insert_reserved-number.result ≡ k = c.insert_reserved-number.ensures.key ∙ c.in-Some.ensures.key_is_next in
+    let key : c.insert_reserved-number.result ≡ k = c.insert_reserved-number.ensures.key ∙ c.in-Some-try_remove.ensures.key_is_next in
     let was = here_before before out back n k c.insert_reserved-number.result c.requires.6 a c.take_from-row.new.other c.take_from-row.new.self c.try_remove.ensures.updates here key c.insert_reserved-number.ensures.updates in
     let same_a : a ≡ u = same_unit a u (sym was ∙ at_u) in
-    let same_b : b ≡ t = same_unit b t (sym c.in-Some.is ∙ c.try_remove.ensures.value ∙ at_t) in
+    let same_b : b ≡ t = same_unit b t (sym c.in-Some-try_remove.is ∙ c.try_remove.ensures.value ∙ at_t) in
     let s : StandsAt a c.args.place.row o = subst (λ (y : UnitView). StandsAt y c.args.place.row o) (sym same_a) stands in
     subst (λ y. MovesRow (get before) (get back) n k y t o c.take_from-row.result) same_a
     (subst (λ y. MovesRow (get before) (get back) n k a y o c.take_from-row.result) same_b

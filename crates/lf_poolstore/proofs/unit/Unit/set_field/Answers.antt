@@ -5,7 +5,8 @@ use Rattle.lf_graph.specs.RowChanges.{with_field_of}
 use Rattle.lf_graph.specs.StoredRows.{field_value_at, fields_by}
 use Rattle.lf_poolstore.specs.RowLists.{numbers}
 use Rattle.lf_poolstore.specs.Units.{IsUnit, UnitView, places_in, rows_in}
-use Rattle.lf_poolstore.proofs.CellFields.{no_number, put_absent, value_found, value_in}
+use Rattle.lf_pool.proofs.Places.{no_number}
+use Rattle.lf_poolstore.proofs.CellFields.{put_absent, value_found, value_in}
 use Rattle.lf_poolstore.proofs.SeenUnits.{is_there, row_seen, same_row, standing}
 use Rattle.lf_poolstore.proofs.WrittenUnits.{same_entry, written_places, written_rows, written_unit}
 use Rattle.lf_poolstore.proofs.WholeUnits.{whole_view}

@@ -7,7 +7,8 @@ use Rattle.lf_graph.specs.StoredRows.{fields_by}
 use Rattle.lf_pool.proofs.Beheads.{node_other}
 use Rattle.lf_poolstore.specs.RowLists.{numbers}
 use Rattle.lf_poolstore.specs.Units.{IsUnit, IsWhole, UnitView, places_in, rows_in}
-use Rattle.lf_poolstore.proofs.CellFields.{drop_absent, found_in_range, no_number, value_found, value_in}
+use Rattle.lf_pool.proofs.Places.{no_number}
+use Rattle.lf_poolstore.proofs.CellFields.{drop_absent, found_in_range, value_found, value_in}
 use Rattle.lf_poolstore.proofs.SeenUnits.{is_there, row_seen, same_row, standing}
 use Rattle.lf_poolstore.proofs.WrittenUnits.{same_entry, written_places, written_rows, written_unit}
 use Rattle.lf_poolstore.proofs.WholeUnits.{whole_view}

@@ -3,7 +3,8 @@ use Rattle.lf_pool.proofs.Beheads.{node_other}
 use Rattle.lf_pool.proofs.Joins.{chain_in_range}
 use Rattle.lf_poolstore.specs.RowLists.{numbers}
 use Rattle.lf_poolstore.specs.Units.{pair_by}
-use Rattle.lf_poolstore.proofs.CellFields.{after_in_range, first_with_member, no_number, past_found, past_none}
+use Rattle.lf_pool.proofs.Places.{no_number}
+use Rattle.lf_poolstore.proofs.CellFields.{after_in_range, first_with_member, past_found, past_none}
 use Rattle.lf_poolstore.proofs.unit.field_walks.cell_past.Goals as goal
 
 pub returns-then-cell-clause-field : goal.returns-then-cell-clause-field

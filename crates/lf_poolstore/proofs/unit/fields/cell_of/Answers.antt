@@ -1,6 +1,7 @@
 use Rattle.lf_pool.proofs.Beheads.{node_other}
 use Rattle.lf_poolstore.specs.RowLists.{numbers}
-use Rattle.lf_poolstore.proofs.CellFields.{cells_there, no_number, none_found}
+use Rattle.lf_pool.proofs.Places.{no_number}
+use Rattle.lf_poolstore.proofs.CellFields.{cells_there, none_found}
 use Rattle.lf_poolstore.proofs.unit.fields.cell_of.Goals as goal
 
 pub returns-then-first-eq-NONE : goal.returns-then-first-eq-NONE

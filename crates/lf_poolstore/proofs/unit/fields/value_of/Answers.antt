@@ -3,7 +3,8 @@ use Rattle.lf_base.specs.declared.values.Key.{Key}
 use Rattle.lf_base.specs.declared.values.Value.{Value}
 use Rattle.lf_pool.proofs.Beheads.{node_other}
 use Rattle.lf_poolstore.specs.RowLists.{numbers}
-use Rattle.lf_poolstore.proofs.CellFields.{found_in_range, no_number, value_found, value_in}
+use Rattle.lf_pool.proofs.Places.{no_number}
+use Rattle.lf_poolstore.proofs.CellFields.{found_in_range, value_found, value_in}
 use Rattle.lf_poolstore.proofs.unit.fields.value_of.Goals as goal
 
 pub pair-requires : goal.pair-requires
