@@ -9,7 +9,7 @@ use Rattle.std.proofs.lemmas.Int.Digits.{digits_value_more}
 use Rattle.std.proofs.lemmas.List.Folds.{list_all_at, list_all_more}
 use Rattle.std.proofs.lemmas.Str.{digit_value_digit}
 use Rattle.std.proofs.lemmas.Str.Parse.{digits_value-take-le}
-use Rattle.lf_app.specs.declared.ticks.TheConstants.{MOST_TICKS}
+use Rattle.lf_base.specs.declared.limits.TheConstants.{MOST_TICKS}
 use Rattle.lf_app.specs.Words.{is_digit, ticks_of}
 
 digit_low : (byte : ℕ) → is_digit byte ≡ true → 48 ≤ byte

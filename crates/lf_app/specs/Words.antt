@@ -6,7 +6,7 @@ use Rattle.std.specs.Str.{bytes_eq}
 use Rattle.std.specs.Str.Parse.{digits_value}
 use Rattle.lf_app.specs.declared.commands.Command.{Command}
 use Rattle.lf_app.specs.declared.commands.Command.TheVariants.{Run, Check, Code}
-use Rattle.lf_app.specs.declared.ticks.TheConstants.{DEFAULT_TICKS, MOST_TICKS}
+use Rattle.lf_base.specs.declared.limits.TheConstants.{DEFAULT_TICKS, MOST_TICKS}
 
 -- `0` to `9`
 abbrev pub is_digit : ℕ → Bool

@@ -1,8 +1,9 @@
 ghost use Rattle.std.specs.Prelude.{◌≡◌};
 ghost use Rattle.lf_app.specs.Words as spec;
 
-use crate::ticks::{DEFAULT_TICKS, ticks_of};
+use crate::ticks::ticks_of;
 use crate::word_list::Word;
+use lf_base::DEFAULT_TICKS;
 
 /// What the program is asked to do with a script.
 #[derive(Clone, Copy, Debug, PartialEq, Eq)]

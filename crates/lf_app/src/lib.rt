@@ -26,5 +26,4 @@ pub use commands::Command;
 pub use program::{MainStore, tool, top};
 pub use reports::Report;
 pub use statuses::Status;
-pub use ticks::{DEFAULT_TICKS, MOST_TICKS};
 pub use word_list::Word;

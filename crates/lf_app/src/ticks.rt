@@ -3,11 +3,7 @@
 ghost use Rattle.std.specs.Prelude.{◌≡◌};
 ghost use Rattle.lf_app.specs.Words as spec;
 
-/// The ticks of a behaviour where no word says how many.
-pub const DEFAULT_TICKS: u64 = 1_000_000;
-
-/// The most ticks that a behaviour may have.
-pub const MOST_TICKS: u64 = 1_000_000_000;
+use lf_base::MOST_TICKS;
 
 fn is_digit(byte: u8) -> bool
     ensures { result ≡ spec.is_digit byte }

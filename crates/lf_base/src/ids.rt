@@ -49,6 +49,9 @@ pub struct TextId {
 }
 
 impl TextId {
+    /// The place of the fixed text `value`, the key of a cown's content.
+    pub const VALUE: TextId = TextId { index: 0 };
+
     /// The place of the fixed text `print`.
     pub const PRINT: TextId = TextId { index: 5 };
 }

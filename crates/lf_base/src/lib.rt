@@ -29,8 +29,9 @@ pub use faults::{Fault, FaultAt, HeapFail};
 pub use ids::{CownId, ObjId, TextId};
 pub use interned::Texts;
 pub use limits::{
-    MOST_ELIFS, MOST_EXPRESSION_LEVELS, MOST_FRAMES, MOST_INDENT_LEVELS, MOST_LINE_TOKENS,
-    MOST_MADE, MOST_PARTS, MOST_PRINTED_BYTES, MOST_SCRIPT_BYTES, MOST_SPAWNS,
+    DEFAULT_TICKS, MOST_BEHAVIOURS, MOST_ELIFS, MOST_EXPRESSION_LEVELS, MOST_FRAMES,
+    MOST_INDENT_LEVELS, MOST_LINE_TOKENS, MOST_MADE, MOST_PARTS, MOST_PRINTED_BYTES,
+    MOST_SCRIPT_BYTES, MOST_SPAWNS, MOST_TICKS,
 };
 pub use links::Link;
 pub use lists::{Cowns, Fields, Held, Line, Lines, Listed, Order, Spawns, Values};

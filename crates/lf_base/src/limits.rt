@@ -29,3 +29,12 @@ pub const MOST_PRINTED_BYTES: usize = 1_048_576;
 
 /// The objects and cowns together that a behaviour may make.
 pub const MOST_MADE: usize = 1_000_000;
+
+/// The behaviours that a run may start, main among them.
+pub const MOST_BEHAVIOURS: u32 = 1_000_000;
+
+/// The ticks of a behaviour where no word says how many.
+pub const DEFAULT_TICKS: u64 = 1_000_000;
+
+/// The most ticks that a behaviour may have.
+pub const MOST_TICKS: u64 = 1_000_000_000;

@@ -1,4 +1,5 @@
-ghost use Rattle.std.specs.Prelude.{◌≡◌, ◌↔◌, ◌++◌, ◌∷◌, [], length, slice_get, IfErr, IsTrue, MatchOption, OnErr, OnOk};
+ghost use Rattle.std.specs.Prelude.{◌≡◌, ◌↔◌, ◌<◌, ◌++◌, ◌∷◌, [], Some, length, slice_get, IfErr, IsTrue, MatchOption, OnErr, OnOk};
+ghost use Rattle.std.specs.List.{slice_set};
 ghost use Rattle.std.specs.Option.{option_copied};
 
 use crate::behaviours::Spawn;
@@ -7,6 +8,7 @@ use crate::memory::OutOfMemory;
 use crate::values::{Key, Value};
 use std::alloc::Global;
 use std::marker::Model;
+use std::mem;
 
 /// A vector that contracts see as the list of its items. All small list types
 /// are this one, at their item type.
@@ -106,6 +108,15 @@ impl<T> Listed<T> {
         ensures { option_copied result ≡ slice_get self.now at }
     {
         self.items.get(at)
+    }
+
+    /// Puts an item in place of the one at that place, counted from 0, and gives that one.
+    pub fn replace(&mut self, at: usize, item: T) -> T
+        requires { at < length self.old }
+        ensures items { self.new ≡ slice_set self.old at item }
+        ensures replaced { slice_get self.old at ≡ Some result }
+    {
+        mem::replace(&mut self.items[at], item)
     }
 
     /// All items, as a slice.

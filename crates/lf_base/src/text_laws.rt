@@ -28,5 +28,6 @@ pub fn texts_are_found()
 
 /// The constants of `TextId` name the fixed texts.
 pub fn text_constants_are_fixed_texts()
-    ensures { text_at fixed_texts TextId.PRINT.index ≡ codes "print" }
+    ensures value { text_at fixed_texts TextId.VALUE.index ≡ codes "value" }
+    ensures print { text_at fixed_texts TextId.PRINT.index ≡ codes "print" }
 {}

@@ -9,7 +9,7 @@ use Rattle.lf_base.specs.Names.{same_cown, same_name}
 use Rattle.lf_base.specs.Owners.{has_row, names}
 use Rattle.lf_base.specs.Sets.{Differ, Member}
 use Rattle.lf_core.specs.declared.journal.Entry.{Entry}
-use Rattle.lf_core.specs.declared.limits.TheConstants.{MOST_BEHAVIOURS}
+use Rattle.lf_base.specs.declared.limits.TheConstants.{MOST_BEHAVIOURS}
 use Rattle.lf_core.specs.Orders.{Rises}
 use Rattle.lf_core.specs.Reading.{Parked}
 use Rattle.lf_core.specs.Tracks.{Apart}

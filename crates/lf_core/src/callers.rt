@@ -6,7 +6,7 @@ ghost use Rattle.lf_base.specs.Names.{same_cown};
 ghost use Rattle.lf_base.specs.Sets.{Differ};
 ghost use Rattle.lf_core.specs.Counting.{HandsIn};
 ghost use Rattle.lf_base.specs.declared.behaviours.Job.{Job as PlainJob};
-ghost use Rattle.lf_core.specs.declared.limits.TheConstants.{MOST_BEHAVIOURS as Most};
+ghost use Rattle.lf_base.specs.declared.limits.TheConstants.{MOST_BEHAVIOURS as Most};
 ghost use Rattle.lf_core.specs.Cores.{MayEnd, going, is_abandoned, new_core, with_ended, with_started};
 ghost use Rattle.lf_core.specs.Reading.{Parked};
 ghost use Rattle.lf_core.specs.Tasks.{outcome_of};

@@ -19,12 +19,10 @@ mod core_tests;
 mod ending;
 mod journal;
 pub mod laws;
-mod limits;
 mod log;
 mod run_core;
 
 pub use actor::{Actor, Outcome, Task};
 pub use contents::Contents;
 pub use journal::{Entry, Journal};
-pub use limits::MOST_BEHAVIOURS;
 pub use run_core::Core;

@@ -2,7 +2,7 @@ ghost use Rattle.std.specs.Prelude.{◌≡◌, ◌↔◌, ◌<◌, ◌≤◌, []
 ghost use Rattle.lf_base.specs.declared.behaviours.Job.{Job as PlainJob};
 ghost use Rattle.lf_base.specs.Names.{same_cown};
 ghost use Rattle.lf_base.specs.Sets.{Differ};
-ghost use Rattle.lf_core.specs.declared.limits.TheConstants.{MOST_BEHAVIOURS as Most};
+ghost use Rattle.lf_base.specs.declared.limits.TheConstants.{MOST_BEHAVIOURS as Most};
 ghost use Rattle.lf_core.specs.Contents.{left_in};
 ghost use Rattle.lf_core.specs.Cores.{MayEnd, going, is_abandoned, new_core, startable, with_abandoned, with_ended, with_started};
 ghost use Rattle.lf_core.specs.Keyed.{pick};
