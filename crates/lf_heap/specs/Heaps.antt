@@ -9,6 +9,7 @@ use Rattle.lf_base.specs.PlainState.{State}
 use Rattle.lf_base.specs.SettledStates.{Settled}
 use Rattle.lf_frozen.specs.FrozenRows.{as_row}
 use Rattle.lf_graph.specs.StoredRows.{CountedRow, plain, rows_by_name}
+use Rattle.lf_heap.specs.declared.contents.CownContents.{CownContents}
 use Rattle.lf_heap.specs.declared.frozen.FrozenParts.{FrozenParts}
 use Rattle.lf_regions.specs.declared.region.Region.{Region}
 use Rattle.lf_settle.specs.SettledStates.{IsCounted}
@@ -20,16 +21,17 @@ pub record Domain : Type 0 where
   pub state : State
   pub spare : ℕ
 
--- the state that a number of a behaviour, how many objects it has made, its frozen rows, a store's rows and slots stand for
-abbrev pub heap_state : ℕ → ℕ → FrozenParts → List CountedRow → List (Option Value) → State
-heap_state birth objects frozen rows slots = record {
+-- the state that a number of a behaviour, how many objects it has made, its contents, its frozen rows, a store's rows and
+-- slots stand for
+abbrev pub heap_state : ℕ → ℕ → CownContents → FrozenParts → List CountedRow → List (Option Value) → State
+heap_state birth objects contents frozen rows slots = record {
   birth = birth;
   objects = objects;
-  cowns = 0;
+  cowns = length contents.made;
   rows = rows_by_name (plain rows);
   slots = slots;
-  held = [];
-  made = [];
+  held = contents.held;
+  made = contents.made;
   given = map as_row frozen.given;
   own = map as_row frozen.own;
 }

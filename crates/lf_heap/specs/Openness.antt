@@ -1,8 +1,11 @@
 -- What lies below a region, found by its rows.
-use Rattle.std.specs.Prelude.{Bool, List, false, filter, length, ltb, map, reverse, true, ◌+◌, ◌++◌, ◌<◌, ◌≡◌, ◌≤◌}
+use Rattle.std.specs.Prelude.{Bool, List, Option, cond, count_by, false, filter, length, ltb, map, reverse, true, ◌+◌, ◌++◌, ◌<◌, ◌≡◌, ◌≤◌}
 use Rattle.std.specs.List.{list_any}
 use Rattle.lf_base.specs.declared.ids.ObjId.{ObjId}
+use Rattle.lf_base.specs.declared.values.Value.{Value}
+use Rattle.lf_base.specs.Edges.{Edge, Slot, edges}
 use Rattle.lf_base.specs.Ownership.{Above}
+use Rattle.lf_base.specs.PlainChanges.{with_slots}
 use Rattle.lf_base.specs.PlainState.{State}
 use Rattle.lf_base.specs.Suspects.{Region as region_place}
 use Rattle.lf_base.specs.WalkCounts.{borrowed}
@@ -38,6 +41,11 @@ pub record Looks (rows : List CountedRow) (regions : List Region) (r : ObjId) (o
 -- there is room for the bridges of regions other than r among these objects
 abbrev pub HasChildRoom : List CountedRow → ObjId → List ObjId → WorkList → Type 0
 HasChildRoom rows r os work = length (children_among rows r os) ≤ work.spare
+
+-- these slots have the edges of those of s but for one to r
+abbrev pub LackOneSlot : State → List (Option Value) → ObjId → Type 0
+LackOneSlot s slots r = (test : Edge → Bool) →
+    count_by test (edges s) ≡ cond (test (record { from = Slot; to = r })) 1 0 + count_by test (edges (with_slots s slots))
 
 -- whether some region below r is borrowed
 abbrev pub IsOpenBelow : State → ObjId → Bool → Type 0

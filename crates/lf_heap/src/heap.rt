@@ -4,7 +4,7 @@ ghost use Rattle.std.specs.Prelude.{◌≡◌, ◌+◌, ◌*◌, ◌-◌, ◌^�
 ghost use Rattle.lf_base.specs.declared.values.Value.{Value as Item};
 ghost use Rattle.lf_base.specs.Asking.{GivesAnswer, asked};
 ghost use Rattle.lf_base.specs.HeapCalls.{Gives, GivesOrWants, close_change, dissolve_change, frozen, lift_change, load_change, merge_change};
-ghost use Rattle.lf_base.specs.HeapCalls.{new_object_change, new_region_change};
+ghost use Rattle.lf_base.specs.HeapCalls.{new_cown_change, new_object_change, new_region_change};
 ghost use Rattle.lf_base.specs.HeapCalls.{read_change, take_change, unset_change, write_change};
 ghost use Rattle.lf_base.specs.Operands.{operand, popped, pushed, put_down, slot_below};
 ghost use Rattle.lf_base.specs.PlainChanges.{first_state};
@@ -258,11 +258,33 @@ impl<S: Store> Heap<S> {
         Ok(())
     }
 
-    /// Reads a field: the last two slots are a target and a key, and become its value. It
-    /// is refused where the target is neither an object nor a cown (`NotObject`), then where
-    /// the key is neither a text nor an integer (`Kind`), then for a cown, since none is held
-    /// (`NotAcquired`), and for an object where the field isn't there (`NoField`). It makes
-    /// twelve calls on the store at most, but for settling.
+    /// Makes a cown: the last slot becomes it, and its value the content. It is refused where
+    /// the value is a local object (`LocalInCown`), or lies inside a region (`Interior`), or is a
+    /// bridge with an owner (`SecondOwner`), then where its region would be open without the slot
+    /// (`Open`), and then as `new_object` is. After `OutOfMemory`, which may come at any time, all
+    /// is as it was. Openness is found by a walk down the rows of what the region owns, each
+    /// region once.
+    pub fn new_cown<L: Ledger>(&mut self, steps: &mut Steps<L>) -> Result<(), HeapFail>
+        requires { 1 ≤ length self.old.state.slots }
+        ensures change { GivesOrWants (new_cown_change self.old.state) result self.old.state self.new.state }
+        ensures slots { OnOk result (length self.new.state.slots ≡ length self.old.state.slots) }
+        ensures room { SameRoom self.old self.new }
+    {
+        let v = self.operand(0);
+        let cown = self.parts.add_cown(v, &mut self.work, steps)?;
+        let last = self.parts.len() - 1;
+        self.parts
+            .replace_slot(last, Some(Value::Cown(cown)), &mut self.work, steps);
+        self.parts.settle(&mut self.work, steps);
+        Ok(())
+    }
+
+    /// Reads a field, or a cown's content, whose key is the text `value`: the last two slots
+    /// are a target and a key, and become its value. It is refused where the target is neither an
+    /// object nor a cown (`NotObject`), then where the key is neither a text nor an integer
+    /// (`Kind`), then for a cown that isn't held (`NotAcquired`), and where the field isn't there,
+    /// or the key is another one than that of the content (`NoField`). It makes twelve calls on the
+    /// store at most, but for settling.
     pub fn read<L: Ledger>(&mut self, steps: &mut Steps<L>) -> Result<(), Fault>
         requires { 2 ≤ length self.old.state.slots }
         ensures change { Gives (read_change self.old.state) result self.old.state self.new.state }
@@ -279,12 +301,13 @@ impl<S: Store> Heap<S> {
         Ok(())
     }
 
-    /// Writes a field: the last three slots are a target, a key and a value, and go. What
-    /// moves with the value goes to the target's region, where it lies in one. It is refused
-    /// as `read` is, but needs no field that is there, and then by the first of these that its
-    /// result would show: a frozen target (`FrozenWrite`), an edge to the inside of another
+    /// Writes a field, or a cown's content: the last three slots are a target, a key and a
+    /// value, and go. What moves with the value goes to the target's region, where it lies in one.
+    /// It is refused as `read` is, but needs no field that is there, and then by the first of these
+    /// that its result would show: a frozen target (`FrozenWrite`), an edge to the inside of another
     /// region (`Interior`), a bridge with two owners (`SecondOwner`), owners that go round
-    /// (`Cycle`). After `OutOfMemory`, which may come at any time, all is as it was. To a local object
+    /// (`Cycle`); for a content, which moves nothing: a local object (`LocalInCown`), one inside a
+    /// region (`Interior`), a bridge with another owner (`SecondOwner`). After `OutOfMemory`, which may come at any time, all is as it was. To a local object
     /// it makes 19 calls on the store at most, but for settling.
     pub fn write<L: Ledger>(&mut self, steps: &mut Steps<L>) -> Result<(), HeapFail>
         requires { 3 ≤ length self.old.state.slots }
@@ -303,8 +326,8 @@ impl<S: Store> Heap<S> {
         Ok(())
     }
 
-    /// Takes a field: the last two slots are a target and a key, and become its value; the
-    /// object is left without the field. It is refused as `read` is, and before `NoField`
+    /// Takes a field, or a cown's content: the last two slots are a target and a key, and become
+    /// its value; the object is left without the field, and the cown with the content `None`. It is refused as `read` is, and before `NoField`
     /// where the object is frozen (`FrozenWrite`). It makes 17 calls on the store at most, but
     /// for settling.
     pub fn take<L: Ledger>(&mut self, steps: &mut Steps<L>) -> Result<(), Fault>

@@ -13,6 +13,7 @@
 #![tactic(auto)]
 
 mod access;
+mod contents;
 mod frozen;
 mod heap;
 mod openness;

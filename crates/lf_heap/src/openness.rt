@@ -1,19 +1,21 @@
 //! Whether a region below another one is borrowed: what regions own, walked down by their
 //! rows.
 
-ghost use Rattle.std.specs.Prelude.{◌≡◌, ◌≤◌, ◌<◌, ◌+◌, ◌*◌, List, Some, [], ◌∷◌, length, reverse, slice_get};
+ghost use Rattle.std.specs.Prelude.{◌≡◌, ◌≤◌, ◌<◌, ◌+◌, ◌*◌, List, Option, Some, [], ◌∷◌, length, reverse, slice_get};
 ghost use Rattle.lf_base.specs.declared.ids.ObjId.{ObjId as Name};
 ghost use Rattle.lf_base.specs.declared.values.Owner.TheVariants.{In};
+ghost use Rattle.lf_base.specs.declared.values.Value.{Value as Item};
 ghost use Rattle.lf_base.specs.Edges.{field_targets};
 ghost use Rattle.lf_base.specs.Names.{targets_of_value};
 ghost use Rattle.lf_base.specs.Owners.{owner_in};
+ghost use Rattle.lf_base.specs.PlainChanges.{with_slots};
 ghost use Rattle.lf_base.specs.PlainState.{State};
 ghost use Rattle.lf_base.specs.Suspects.{Region as region_place};
 ghost use Rattle.lf_base.specs.WalkCounts.{is_open, open_children};
 ghost use Rattle.lf_barrier.specs.Descents.{is_child, region_targets};
 ghost use Rattle.lf_domain.specs.Counts.{IsDomain};
 ghost use Rattle.lf_graph.specs.StoredRows.{HasRow, fields_at, owner_at};
-ghost use Rattle.lf_heap.specs.Openness.{HasChildRoom, IsOpenBelow, Looks};
+ghost use Rattle.lf_heap.specs.Openness.{HasChildRoom, IsOpenBelow, LackOneSlot, Looks};
 
 use lf_base::{ObjId, Owner, Steps, Value};
 use lf_graph::Store;
@@ -98,6 +100,23 @@ fn is_open<S: Store, L: Ledger>(
     ensures same { found.new ≡ found.old }
 {
     regions.borrowed(r) > 0 || is_open_below(store, regions, found, r, steps)
+}
+
+/// Whether region r would be open if one slot that holds its bridge were unset, or gone.
+pub(crate) fn is_open_without_slot<S: Store, L: Ledger>(
+    store: &S,
+    regions: &RegionTable,
+    found: &mut Work,
+    r: ObjId,
+    steps: &mut Steps<L>,
+) -> bool
+    requires region { (s : State) × (IsDomain (S.rows store.now) regions.now s
+        × ((owner_in s.rows r ≡ Some (In r)) × (length s.rows ≤ found.old.spare))) }
+    ensures open { (s : State) (slots : List (Option Item)) → IsDomain (S.rows store.now) regions.now s → owner_in s.rows r ≡ Some (In r)
+        → LackOneSlot s slots r → result ≡ is_open (with_slots s slots) r }
+    ensures same { found.new ≡ found.old }
+{
+    regions.borrowed(r) > 1 || is_open_below(store, regions, found, r, steps)
 }
 
 // The region that is listed at a place.

@@ -2,14 +2,16 @@
 //! the heap settles them at the end of each call.
 
 ghost use Rattle.std.specs.Prelude.{◌≡◌, ◌+◌, ◌++◌, ◌*◌, ◌-◌, ◌<◌, ◌≤◌, [], List, None, Some, IfOk, IfSome, OnErr, OnOk, length, map, ℕ, ◌^◌};
+ghost use Rattle.std.specs.Option.{option_or};
 ghost use Rattle.std.specs.Result.{result_err};
-ghost use Rattle.lf_base.specs.declared.faults.Fault.TheVariants.{NotAcquired};
 ghost use Rattle.lf_base.specs.declared.ids.ObjId.{ObjId as Name};
 ghost use Rattle.lf_base.specs.declared.values.Value.{Value as Item};
 ghost use Rattle.lf_base.specs.declared.values.Value.TheVariants.{Obj};
+ghost use Rattle.lf_base.specs.declared.values.Value.TheVariants as variant;
 ghost use Rattle.lf_base.specs.Accesses.{field_of, or_no_field, read_refusal, read_value, remove_refusal, remove_result};
 ghost use Rattle.lf_base.specs.Accesses.{store_refusal, store_result};
 ghost use Rattle.lf_base.specs.Asking.{GivesAnswer, answer_to, asked};
+ghost use Rattle.lf_base.specs.ContentResult.{content_at, content_refusal, content_result};
 ghost use Rattle.lf_base.specs.Edges.{Edge, Slot, edges_by, slot_targets};
 ghost use Rattle.lf_base.specs.CloseResult.{close_refusal};
 ghost use Rattle.lf_base.specs.DissolveResult.{dissolve_refusal, dissolve_result};
@@ -18,10 +20,12 @@ ghost use Rattle.lf_base.specs.HeapCalls.{making_refusal, merged_by, on_bridge};
 ghost use Rattle.lf_base.specs.Kept.{kept};
 ghost use Rattle.lf_base.specs.MergeResult.{merge_refusal};
 ghost use Rattle.lf_base.specs.Names.{key_of};
+ghost use Rattle.lf_base.specs.NewCown.{made_result, new_cown_refusal, next_cown};
 ghost use Rattle.lf_base.specs.Noticing.{InSlot, Noticed};
-ghost use Rattle.lf_base.specs.Operands.{slot_below, without_last};
-ghost use Rattle.lf_base.specs.Owners.{bridge_of};
+ghost use Rattle.lf_base.specs.Operands.{operand, slot_below, without_last};
+ghost use Rattle.lf_base.specs.Owners as owners;
 ghost use Rattle.lf_base.specs.PlainChanges.{first_state, next_object, object_result, region_result, slot_at, with_slot, with_slot_at};
+ghost use Rattle.lf_base.specs.PlainChecks.{cown_refusal};
 ghost use Rattle.lf_base.specs.PlainState.{Row, State};
 ghost use Rattle.lf_base.specs.SettledStates.{Settled};
 ghost use Rattle.lf_base.specs.Suspects.{Object};
@@ -40,12 +44,15 @@ ghost use Rattle.lf_settle.specs.Drops.{SameCapacity};
 ghost use Rattle.lf_settle.specs.WorkLists.{WorkList};
 
 use crate::access::{Target, access_of};
+use crate::contents::CownContents;
 use crate::frozen::FrozenParts;
-use crate::questions::{answer, fault_of};
+use crate::openness::is_open_without_slot;
+use crate::questions::{answer, bridge_of, fault_of};
 use crate::suspects::{Kind, note, suspect_all, suspect_regions, watch_rows};
-use lf_barrier::{apply_write, plan_write};
+use lf_barrier::{apply_content, apply_write, check_content, plan_write};
 use lf_base::{
-    Answer, Fault, HeapFail, Key, MOST_MADE, ObjId, OutOfMemory, Owner, Question, Steps, Value,
+    Answer, CownId, Fault, HeapFail, Key, MOST_MADE, ObjId, OutOfMemory, Owner, Question, Steps,
+    TextId, Value,
 };
 use lf_domain::count_borrow;
 use lf_frozen::FrozenMap;
@@ -64,6 +71,9 @@ const MOST_SLOTS: usize = 4_611_686_018_427_387_904;
 
 const MOST_CELLS: u64 = 4_611_686_018_427_387_903;
 
+// The key of a cown's content.
+const CONTENT_KEY: Key = Key::Text(TextId::VALUE);
+
 /// The store, the table of regions and the slots of one domain. Contracts see the state
 /// that they stand for, and the number of slots for which there is room. It is
 /// well-formed, and store and table keep its counts.
@@ -72,8 +82,9 @@ pub(crate) struct Parts<S: Store> {
     birth: u32,
     // How many objects were made.
     objects: u32,
-    // No fewer than the fields of all rows.
+    // No fewer than the fields of all rows and the contents together.
     cells: u64,
+    contents: CownContents,
     frozen: FrozenParts,
     store: S,
     regions: RegionTable,
@@ -88,11 +99,11 @@ impl<S: Store> Model for Parts<S> {
     ghost Value = { Domain };
 
     ghost view = { λ p. record {
-      state = heap_state p.birth p.objects p.frozen (S.rows p.store) p.slots.items;
+      state = heap_state p.birth p.objects p.contents p.frozen (S.rows p.store) p.slots.items;
       spare = min (vec_capacity p.slots) (2 ^ 62) - vec_len p.slots;
     } };
 
-    ghost invariant = { λ p. HasParts (S.rows p.store) p.regions p.cells (heap_state p.birth p.objects p.frozen (S.rows p.store) p.slots.items) };
+    ghost invariant = { λ p. HasParts (S.rows p.store) p.regions p.cells (heap_state p.birth p.objects p.contents p.frozen (S.rows p.store) p.slots.items) };
 }
 
 // Counts a slot's edge by steps that nobody sees.
@@ -162,6 +173,7 @@ impl<S: Store> Parts<S> {
             birth,
             objects: 0,
             cells: 0,
+            contents: CownContents::none(alloc),
             frozen: FrozenParts {
                 given,
                 own: FrozenMap::new(alloc),
@@ -296,13 +308,20 @@ impl<S: Store> Parts<S> {
         settle(&mut self.store, &mut self.regions, work, steps);
     }
 
+    // How many objects and cowns were made.
+    fn made(&self) -> usize
+        ensures { result ≡ self.now.state.objects + self.now.state.cowns }
+    {
+        self.objects as usize + self.contents.made.len()
+    }
+
     // The name of the next object. One object more than may be made is refused
     // (`TooManyObjects`).
     fn next_name(&self) -> Result<ObjId, Fault>
         ensures answer { result_err result ≡ making_refusal self.now.state }
         ensures name { IfOk result (λ o. o ≡ next_object self.now.state) }
     {
-        if self.objects as usize >= MOST_MADE {
+        if self.made() >= MOST_MADE {
             return Err(Fault::TooManyObjects);
         }
         Ok(ObjId {
@@ -344,13 +363,162 @@ impl<S: Store> Parts<S> {
         Ok(o)
     }
 
-    // What the use of a cown is refused for, as none is held.
-    fn not_held(&self) -> Fault
-        ensures fault { result ≡ NotAcquired }
-        ensures none { self.now.state.held ≡ [] }
+    // The name of the next cown. One more than may be made is refused (`TooManyObjects`).
+    fn next_cown(&self) -> Result<CownId, Fault>
+        ensures answer { result_err result ≡ making_refusal self.now.state }
+        ensures name { IfOk result (λ c. c ≡ next_cown self.now.state) }
     {
-        let _birth = self.birth;
-        Fault::NotAcquired
+        if self.made() >= MOST_MADE {
+            return Err(Fault::TooManyObjects);
+        }
+        Ok(CownId {
+            birth: self.birth,
+            seq: self.contents.made.len() as u32 + 1,
+        })
+    }
+
+    // What a cown is refused for whose content the last slot holds, but for how many were
+    // made. The region of that content is judged without the slot.
+    fn judge_cown<L: Ledger>(
+        &self,
+        v: Value,
+        found: &mut Work,
+        steps: &mut Steps<L>,
+    ) -> Result<(), Fault>
+        requires there { 1 ≤ length self.now.state.slots }
+        requires last { v ≡ operand self.now.state 0 }
+        requires room { length self.now.state.rows ≤ found.old.spare }
+        ensures answer { result_err result ≡ new_cown_refusal (without_last 1 self.now.state) v }
+        ensures same { found.new ≡ found.old }
+    {
+        check_content(&self.store, &self.regions, Value::None, v, steps)?;
+        let Some(r) = bridge_of(&self.store, v, steps) else {
+            return Ok(());
+        };
+        if is_open_without_slot(&self.store, &self.regions, found, r, steps) {
+            return Err(Fault::Open);
+        }
+        Ok(())
+    }
+
+    /// Makes a cown whose content the last slot holds. The slot stays.
+    pub(crate) fn add_cown<L: Ledger>(
+        &mut self,
+        v: Value,
+        work: &mut Work,
+        steps: &mut Steps<L>,
+    ) -> Result<CownId, HeapFail>
+        requires there { 1 ≤ length self.old.state.slots }
+        requires last { v ≡ operand self.old.state 0 }
+        requires room { length self.old.state.rows ≤ work.old.spare }
+        ensures answer { AnswersAs (option_or (new_cown_refusal (without_last 1 self.old.state) v) (making_refusal self.old.state)) result }
+        ensures name { IfOk result (λ c. c ≡ next_cown self.old.state) }
+        ensures state { OnOk result (self.new.state ≡ made_result self.old.state v) }
+        ensures follows { OnOk result (Follows self.old.state self.new.state work.old work.new 0) }
+        ensures unchanged { OnErr result (self.new.state ≡ self.old.state) }
+        ensures no_suspect { work.new ≡ work.old }
+        ensures room { self.new.spare ≡ self.old.spare }
+    {
+        self.judge_cown(v, work, steps)?;
+        let cown = self.next_cown()?;
+        if self.cells >= MOST_CELLS {
+            return Err(HeapFail::OutOfMemory);
+        }
+        self.contents.make(cown, v)?;
+        self.cells += 1;
+        apply_content(
+            &mut self.store,
+            &mut self.regions,
+            cown,
+            Value::None,
+            v,
+            steps,
+        );
+        Ok(cown)
+    }
+
+    // A held cown's content, by its key.
+    fn content_of(&self, c: CownId, key: Key) -> Result<Value, Fault>
+        ensures answer { result_err result ≡ cown_refusal self.now.state c key }
+        ensures value { IfOk result (λ v. content_at self.now.state.held c ≡ Some v) }
+        ensures may { IfOk result (λ v. SlotMayHold self.now.state v) }
+    {
+        let Some(v) = self.contents.content(c) else {
+            return Err(Fault::NotAcquired);
+        };
+        if !key.is_same(CONTENT_KEY) {
+            return Err(Fault::NoField);
+        }
+        Ok(v)
+    }
+
+    // Puts a content that isn't refused in place of the old one.
+    fn set_content<L: Ledger>(
+        &mut self,
+        c: CownId,
+        old: Value,
+        v: Value,
+        work: &mut Work,
+        steps: &mut Steps<L>,
+    )
+        requires was { content_at self.old.state.held c ≡ Some old }
+        requires may { SlotMayHold self.old.state v }
+        requires allowed { content_refusal self.old.state c v ≡ None }
+        requires room { 1 ≤ work.old.spare }
+        ensures state { self.new.state ≡ content_result self.old.state c v }
+        ensures follows { Follows self.old.state self.new.state work.old work.new 1 }
+        ensures room { self.new.spare ≡ self.old.spare }
+    {
+        apply_content(&mut self.store, &mut self.regions, c, old, v, steps);
+        self.contents.set(c, v);
+        note(work, Some(old));
+    }
+
+    // Takes a held cown's content, which is `None` then.
+    fn take_content<L: Ledger>(
+        &mut self,
+        c: CownId,
+        key: Key,
+        work: &mut Work,
+        steps: &mut Steps<L>,
+    ) -> Result<Value, Fault>
+        requires room { 1 ≤ work.old.spare }
+        ensures answer { result_err result ≡ cown_refusal self.old.state c key }
+        ensures value { IfOk result (λ v. content_at self.old.state.held c ≡ Some v) }
+        ensures state { OnOk result (self.new.state ≡ content_result self.old.state c variant.None) }
+        ensures may { IfOk result (λ v. SlotMayHold self.new.state v) }
+        ensures follows { OnOk result (Follows self.old.state self.new.state work.old work.new 1) }
+        ensures unchanged { OnErr result (self.new.state ≡ self.old.state) }
+        ensures no_suspect { OnErr result (work.new ≡ work.old) }
+        ensures room { self.new.spare ≡ self.old.spare }
+    {
+        let old = self.content_of(c, key)?;
+        self.set_content(c, old, Value::None, work, steps);
+        Ok(old)
+    }
+
+    // Writes a held cown's content.
+    fn put_content<L: Ledger>(
+        &mut self,
+        c: CownId,
+        key: Key,
+        v: Value,
+        work: &mut Work,
+        steps: &mut Steps<L>,
+    ) -> Result<(), Fault>
+        requires may { SlotMayHold self.old.state v }
+        requires room { 1 ≤ work.old.spare }
+        ensures answer { result_err result ≡ option_or (cown_refusal self.old.state c key) (content_refusal self.old.state c v) }
+        ensures state { OnOk result (self.new.state ≡ content_result self.old.state c v) }
+        ensures follows { OnOk result (Follows self.old.state self.new.state work.old work.new 1) }
+        ensures unchanged { OnErr result (self.new.state ≡ self.old.state) }
+        ensures no_suspect { OnErr result (work.new ≡ work.old) }
+        ensures room { self.new.spare ≡ self.old.spare }
+    {
+        let old = self.content_of(c, key)?;
+        check_content(&self.store, &self.regions, old, v, steps)?;
+        self.set_content(c, old, v, work, steps);
+        Ok(())
     }
 
     /// What a read of a target by a key gives.
@@ -367,7 +535,7 @@ impl<S: Store> Parts<S> {
         let access = access_of(target, key)?;
         match access.target {
             Target::Object(o) => self.field_of(o, access.key, steps),
-            Target::Cown(_) => Err(self.not_held()),
+            Target::Cown(c) => self.content_of(c, access.key),
         }
     }
 
@@ -416,7 +584,7 @@ impl<S: Store> Parts<S> {
         let access = access_of(target, key)?;
         match access.target {
             Target::Object(o) => self.take_field(o, access.key, work, steps),
-            Target::Cown(_) => Err(self.not_held()),
+            Target::Cown(c) => self.take_content(c, access.key, work, steps),
         }
     }
 
@@ -478,7 +646,7 @@ impl<S: Store> Parts<S> {
         let access = access_of(target, key)?;
         match access.target {
             Target::Object(o) => self.put_field(o, access.key, v, work, steps),
-            Target::Cown(_) => Err(HeapFail::Fault(self.not_held())),
+            Target::Cown(c) => Ok(self.put_content(c, access.key, v, work, steps)?),
         }
     }
 
@@ -525,7 +693,7 @@ impl<S: Store> Parts<S> {
     ) -> Result<(), HeapFail>
         requires room { 1 ≤ work.old.spare }
         ensures answer { AnswersAs (merge_refusal self.old.state a b) result }
-        ensures state { OnOk result (self.new.state ≡ merged_by (bridge_of self.old.state a) (bridge_of self.old.state b) self.old.state) }
+        ensures state { OnOk result (self.new.state ≡ merged_by (owners.bridge_of self.old.state a) (owners.bridge_of self.old.state b) self.old.state) }
         ensures follows { OnOk result (Follows self.old.state self.new.state work.old work.new 1) }
         ensures unchanged { OnErr result (self.new.state ≡ self.old.state) }
         ensures no_suspect { OnErr result (work.new ≡ work.old) }
@@ -549,7 +717,7 @@ impl<S: Store> Parts<S> {
     ) -> Result<(), HeapFail>
         requires named { (o : Name) → r ≡ Obj o → InSlot self.old.state o }
         ensures answer { AnswersAs (dissolve_refusal self.old.state r) result }
-        ensures state { OnOk result (self.new.state ≡ on_bridge (bridge_of self.old.state r) (dissolve_result self.old.state) self.old.state) }
+        ensures state { OnOk result (self.new.state ≡ on_bridge (owners.bridge_of self.old.state r) (dissolve_result self.old.state) self.old.state) }
         ensures follows { OnOk result ((work : WorkList) → Follows self.old.state self.new.state work work 0) }
         ensures unchanged { OnErr result (self.new.state ≡ self.old.state) }
         ensures room { self.new.spare ≡ self.old.spare }

@@ -12,7 +12,7 @@ ghost use Rattle.lf_domain.specs.Counts.{IsDomain};
 ghost use Rattle.lf_heap.specs.Heaps.{FitsInteger};
 ghost use Rattle.lf_regions.specs.declared.region.Region.{Region};
 
-use crate::openness::{is_open_below, open_children};
+use crate::openness::{is_open_without_slot, open_children};
 use lf_base::{Answer, Fault, Label, ObjId, Owner, Question, Steps, Value};
 use lf_graph::Store;
 use lf_regions::RegionTable;
@@ -31,8 +31,12 @@ fn refs_of<S: Store, L: Ledger>(store: &S, v: Value, steps: &mut Steps<L>) -> Op
     Some(store.refs(o, steps))
 }
 
-// The bridge that a value refers to, where it refers to one.
-fn bridge_of<S: Store, L: Ledger>(store: &S, v: Value, steps: &mut Steps<L>) -> Option<ObjId>
+/// The bridge that a value refers to, where it refers to one.
+pub(crate) fn bridge_of<S: Store, L: Ledger>(
+    store: &S,
+    v: Value,
+    steps: &mut Steps<L>,
+) -> Option<ObjId>
     ensures { (regions : List Region) (s : State) → IsDomain (S.rows store.now) regions s → result ≡ owners.bridge_of s v }
 {
     let o = v.object()?;
@@ -122,10 +126,7 @@ fn is_closed<S: Store, L: Ledger>(
     ensures same { found.new ≡ found.old }
 {
     let r = bridge_of(store, v, steps)?;
-    if regions.borrowed(r) > 1 {
-        return Some(false);
-    }
-    let open = is_open_below(store, regions, found, r, steps);
+    let open = is_open_without_slot(store, regions, found, r, steps);
     Some(!open)
 }
 

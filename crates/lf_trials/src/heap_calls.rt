@@ -14,6 +14,8 @@ use std::sync::ledger::Ledger;
 pub enum HeapCall {
     Object,
     Region,
+    /// Makes a cown of the last slot.
+    Cown,
     /// Pushes an integer, as a key or as a value.
     Number(i64),
     Load(usize),
@@ -27,6 +29,7 @@ pub enum HeapCall {
     Freeze,
     Merge,
     Dissolve,
+    Close(usize),
 }
 
 /// Makes a call, and room for a slot before it. Where it needs slots that aren't there, it
@@ -40,6 +43,7 @@ pub fn make_call<S: Store, L: Ledger>(
     match call {
         HeapCall::Object => heap.new_object(),
         HeapCall::Region => heap.new_region(),
+        HeapCall::Cown => make_cown(heap, steps),
         HeapCall::Number(n) => {
             heap.push(Some(Value::Int(n)));
             Ok(())
@@ -61,10 +65,21 @@ pub fn make_call<S: Store, L: Ledger>(
         HeapCall::Freeze => freeze_object(heap, steps),
         HeapCall::Merge => merge_regions(heap, steps),
         HeapCall::Dissolve => dissolve_region(heap, steps),
+        HeapCall::Close(at) => close_region(heap, at, steps),
     }
 }
 
 // The calls that need slots, where these are there.
+
+fn make_cown<S: Store, L: Ledger>(
+    heap: &mut Heap<S>,
+    steps: &mut Steps<L>,
+) -> Result<(), HeapFail> {
+    if heap.slots() >= 1 {
+        heap.new_cown(steps)?;
+    }
+    Ok(())
+}
 
 fn copy_slot<S: Store>(heap: &mut Heap<S>, at: usize) -> Result<(), HeapFail> {
     heap.room(1)?;
@@ -162,6 +177,17 @@ fn dissolve_region<S: Store, L: Ledger>(
 ) -> Result<(), HeapFail> {
     if heap.slots() >= 1 {
         heap.dissolve(steps)?;
+    }
+    Ok(())
+}
+
+fn close_region<S: Store, L: Ledger>(
+    heap: &mut Heap<S>,
+    at: usize,
+    steps: &mut Steps<L>,
+) -> Result<(), HeapFail> {
+    if at < heap.slots() {
+        heap.close(at, steps)?;
     }
     Ok(())
 }

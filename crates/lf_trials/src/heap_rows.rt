@@ -3,7 +3,7 @@
 ghost use Rattle.std.specs.Prelude.{◌≡◌, ◌<◌};
 
 use crate::heap_calls::{HeapCall, heap_after};
-use lf_base::{Answer, Fault, Label, ObjId, OutOfMemory, Question, Steps, Value};
+use lf_base::{Answer, CownId, Fault, Label, ObjId, OutOfMemory, Question, Steps, Value};
 use lf_graph::Store;
 use lf_heap::Heap;
 use std::alloc::Global;
@@ -20,7 +20,7 @@ struct HeapRow {
     asked: &'static [(Question, usize, Result<Answer, Fault>)],
 }
 
-static ROWS: [HeapRow; 19] = [
+static ROWS: [HeapRow; 27] = [
     HeapRow {
         name: "first_sum",
         variables: 1,
@@ -478,6 +478,119 @@ static ROWS: [HeapRow; 19] = [
             (Question::OpenChildren, 0, Ok(Answer::Number(0))),
             (Question::IsClosed, 0, Ok(Answer::Truth(true))),
         ],
+    },
+    HeapRow {
+        name: "a closed region is the content of a cown",
+        variables: 1,
+        calls: &[HeapCall::Region, HeapCall::Cown],
+        fault: None,
+        last: Some(Value::Cown(CownId { birth: 0, seq: 1 })),
+        asked: &[(Question::Owner, 1, Ok(Answer::Label(Label::Cown)))],
+    },
+    HeapRow {
+        name: "a cown that was made isn't held",
+        variables: 1,
+        calls: &[
+            HeapCall::Region,
+            HeapCall::Cown,
+            HeapCall::Number(1),
+            HeapCall::Read,
+        ],
+        fault: Some(Fault::NotAcquired),
+        last: Some(Value::Int(1)),
+        asked: &[(Question::Owner, 1, Ok(Answer::Label(Label::Cown)))],
+    },
+    HeapRow {
+        name: "a region in a variable is open",
+        variables: 1,
+        calls: &[
+            HeapCall::Region,
+            HeapCall::Put(0),
+            HeapCall::Load(0),
+            HeapCall::Cown,
+        ],
+        fault: Some(Fault::Open),
+        last: Some(Value::Obj(ObjId { birth: 0, seq: 1 })),
+        asked: &[(Question::Borrowed, 0, Ok(Answer::Number(2)))],
+    },
+    HeapRow {
+        name: "a local object is no content",
+        variables: 1,
+        calls: &[HeapCall::Object, HeapCall::Cown],
+        fault: Some(Fault::LocalInCown),
+        last: Some(Value::Obj(ObjId { birth: 0, seq: 1 })),
+        asked: &[(Question::Owner, 1, Ok(Answer::Label(Label::Local)))],
+    },
+    HeapRow {
+        name: "an object inside a region is no content",
+        variables: 2,
+        calls: &[
+            HeapCall::Region,
+            HeapCall::Put(0),
+            HeapCall::Object,
+            HeapCall::Put(1),
+            HeapCall::Load(0),
+            HeapCall::Number(1),
+            HeapCall::Load(1),
+            HeapCall::Write,
+            HeapCall::Load(1),
+            HeapCall::Cown,
+        ],
+        fault: Some(Fault::Interior),
+        last: Some(Value::Obj(ObjId { birth: 0, seq: 2 })),
+        asked: &[(Question::Refs, 1, Ok(Answer::Number(3)))],
+    },
+    HeapRow {
+        name: "an owned region is judged by its owner before its borrows",
+        variables: 2,
+        calls: &[
+            HeapCall::Region,
+            HeapCall::Put(0),
+            HeapCall::Region,
+            HeapCall::Put(1),
+            HeapCall::Load(0),
+            HeapCall::Number(1),
+            HeapCall::Load(1),
+            HeapCall::Write,
+            HeapCall::Load(1),
+            HeapCall::Cown,
+        ],
+        fault: Some(Fault::SecondOwner),
+        last: Some(Value::Obj(ObjId { birth: 0, seq: 2 })),
+        asked: &[(Question::Borrowed, 1, Ok(Answer::Number(2)))],
+    },
+    HeapRow {
+        name: "a close leaves the one variable",
+        variables: 3,
+        calls: &[
+            HeapCall::Region,
+            HeapCall::Put(0),
+            HeapCall::Object,
+            HeapCall::Put(1),
+            HeapCall::Load(0),
+            HeapCall::Number(1),
+            HeapCall::Load(1),
+            HeapCall::Write,
+            HeapCall::Load(0),
+            HeapCall::Put(2),
+            HeapCall::Close(0),
+        ],
+        fault: None,
+        last: None,
+        asked: &[
+            (Question::Borrowed, 0, Ok(Answer::Number(1))),
+            (Question::IsClosed, 0, Ok(Answer::Truth(true))),
+            (Question::Owner, 1, Ok(Answer::Label(Label::Value))),
+            (Question::Owner, 2, Ok(Answer::Label(Label::Value))),
+        ],
+    },
+    HeapRow {
+        name: "a local object isn't closed",
+        variables: 1,
+        calls: &[HeapCall::Object, HeapCall::Put(0), HeapCall::Close(0)],
+        fault: Some(Fault::NotBridge),
+        last: None,
+        asked: &[(Question::Owner, 0, Ok(Answer::Label(Label::Local)))],
     },
 ];
 

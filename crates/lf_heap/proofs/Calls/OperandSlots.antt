@@ -1,21 +1,24 @@
 -- Operands that go, and their values.
-use Rattle.std.proofs.Common.{List, None, Option, Some, [], ap, arith, inl, length, refl, suc, sym, take, zero, ℕ, ◌++◌, ◌+◌, ◌-◌, ◌<◌, ◌∙◌, ◌∷◌, ◌≡◌, ◌≤◌}
-use Rattle.std.proofs.lemmas.List.{length-take-le, take-take}
+use Rattle.std.proofs.Common.{List, None, Option, Some, [], ap, arith, inl, inr, length, refl, subst, suc, sym, take, zero, ℕ, ◌++◌, ◌+◌, ◌-◌, ◌<◌, ◌∙◌, ◌∷◌, ◌≡◌, ◌≤◌}
+use Rattle.std.proofs.lemmas.List.{length-take-le, take-take, take_all}
+use Rattle.std.specs.Option.{option_or}
+use Rattle.lf_base.specs.declared.ids.CownId.{CownId}
 use Rattle.lf_base.specs.declared.ids.ObjId.{ObjId}
 use Rattle.lf_base.specs.declared.values.Value.{Value}
 use Rattle.lf_base.specs.declared.values.Value.TheVariants as value
 use Rattle.lf_base.specs.declared.values.Key.{Key}
 use Rattle.lf_base.specs.Accesses.{read_refusal, read_value, remove_refusal, remove_result}
 use Rattle.lf_base.specs.Edges.{Slot, edges_by, slot_targets}
-use Rattle.lf_base.specs.HeapCalls.{Done, read_change, take_change}
+use Rattle.lf_base.specs.HeapCalls.{Done, making_refusal, new_cown_change, read_change, take_change}
 use Rattle.lf_base.specs.Kept.{kept}
 use Rattle.lf_base.specs.Names.{key_of}
+use Rattle.lf_base.specs.NewCown.{made_result, new_cown_refusal, next_cown}
 use Rattle.lf_base.specs.Noticing.{InSlot}
 use Rattle.lf_base.specs.Operands.{operand, set_value, slot_below, with_last, without_last}
 use Rattle.lf_base.specs.PlainChanges.{put_slot, with_slot_at, with_slots}
 use Rattle.lf_base.specs.PlainState.{State}
 use Rattle.lf_base.specs.Sets.{Member}
-use Rattle.lf_base.specs.WellFormed.{SlotMayHold, WellFormed}
+use Rattle.lf_base.specs.WellFormed.{IsNumber, SlotMayHold, WellFormed}
 use Rattle.lf_base.proofs.ListLemmas.Members.{Member_flat_map}
 use Rattle.lf_heap.proofs.Calls.Rests.{done}
 use Rattle.lf_heap.proofs.Slots.SlotLosses.{held_value}
@@ -45,6 +48,31 @@ two_become s w h =
     let n : ℕ = length s.slots - 2 in
     let long : length (put_slot s.slots n w) - 1 ≡ suc n = omega (arith, put_length s.slots n w, h) in
     ap (with_slots s) (ap (λ k. take k (put_slot s.slots n w)) long ∙ put_before_last s.slots n w (omega (arith, h)))
+
+-- ---- an operand becomes another value
+pub one_becomes : (s : State) (n : ℕ) (w : Option Value) → n + 1 ≡ length s.slots → with_slot_at s n w ≡ with_last 1 w s
+one_becomes s n w at =
+    let place : n ≡ length s.slots - 1 = omega (arith, at) in
+    let whole : length (put_slot s.slots n w) ≤ suc n = omega (arith, put_length s.slots n w, at) in
+    ap (with_slots s) (sym (take_all (suc n) (put_slot s.slots n w) whole) ∙ put_before_last s.slots n w (omega (arith, at)) ∙ ap (λ k. take k s.slots ++ w ∷ []) place)
+
+pub cown_done : (s t u : State) (v : Value) (c : CownId) (n : ℕ) → v ≡ operand s 0 → None ≡ option_or (new_cown_refusal (without_last 1 s) v) (making_refusal s) → c ≡ next_cown s
+    → t ≡ made_result s v → n + 1 ≡ length s.slots → u ≡ kept (with_slot_at t n (Some (value.Cown c))) → new_cown_change s ≡ Done u
+cown_done s t u v c n is allowed name made at end =
+    done (option_or (new_cown_refusal (without_last 1 s) (operand s 0)) (making_refusal s)) (with_last 1 (Some (value.Cown (next_cown s))) (made_result s (operand s 0))) u
+    (sym (allowed ∙ ap (λ x. option_or (new_cown_refusal (without_last 1 s) x) (making_refusal s)) is))
+    (end ∙ ap (λ x. kept (with_slot_at x n (Some (value.Cown c)))) (made ∙ ap (made_result s) is)
+    ∙ ap kept (one_becomes (made_result s (operand s 0)) n (Some (value.Cown c)) at ∙ ap (λ x. with_last 1 (Some (value.Cown x)) (made_result s (operand s 0))) name))
+
+-- a cown that was made may be held by a slot
+pub made_may_be_held : (s : State) (v : Value) → SlotMayHold (made_result s v) (value.Cown (next_cown s))
+made_may_be_held s v = record {
+  object_there = λ o m. absurd m;
+  cown_numbered = λ c m e. elim m [
+    | inl same ↦ subst (λ (x : CownId). IsNumber x.seq (s.cowns + 1)) same (omega arith, omega arith)
+    | inr n ↦ absurd n
+  ];
+}
 
 -- ---- the value of an operand
 module _ (s : State) (well : WellFormed s) where

@@ -1,6 +1,7 @@
 -- How many slots a call leaves.
 use Rattle.std.proofs.Common.{None, Option, Some, [], ap, arith, length, length-append, map, refl, ℕ, ◌+◌, ◌-◌, ◌∙◌, ◌∷◌, ◌≡◌, ◌≤◌}
 use Rattle.std.proofs.lemmas.List.{length-map, length-take-le}
+use Rattle.std.specs.Option.{option_or}
 use Rattle.lf_base.specs.declared.faults.Fault.{Fault}
 use Rattle.lf_base.specs.declared.ids.ObjId.{ObjId}
 use Rattle.lf_base.specs.declared.values.Key.{Key}
@@ -9,11 +10,13 @@ use Rattle.lf_base.specs.declared.values.Value.TheVariants as value
 use Rattle.lf_base.specs.Accesses.{read_refusal, read_value, remove_refusal, remove_result, store_refusal, store_result}
 use Rattle.lf_base.specs.CloseResult.{close_refusal, close_result, closed_slot}
 use Rattle.lf_base.specs.DissolveResult.{dissolve_refusal, dissolve_result}
-use Rattle.lf_base.specs.HeapCalls.{Done, close_change, dissolve_change, lift_change, load_change, making_refusal, merge_change, merged_by, new_object_change, new_region_change, on_bridge}
+use Rattle.lf_base.specs.HeapCalls.{Done, close_change, dissolve_change, lift_change, load_change, making_refusal, merge_change, merged_by}
+use Rattle.lf_base.specs.HeapCalls.{new_cown_change, new_object_change, new_region_change, on_bridge}
 use Rattle.lf_base.specs.HeapCalls.{read_change, take_change, unless_refused, unset_change, unset_refusal, write_change}
 use Rattle.lf_base.specs.Kept.{kept}
 use Rattle.lf_base.specs.MergeResult.{merge_refusal}
 use Rattle.lf_base.specs.Names.{key_of}
+use Rattle.lf_base.specs.NewCown.{made_result, new_cown_refusal, next_cown}
 use Rattle.lf_base.specs.Operands.{operand, set_value, slot_below, with_last, without_last}
 use Rattle.lf_base.specs.Owners.{bridge_of}
 use Rattle.lf_base.specs.PlainChanges.{next_object, object_result, region_result, slot_at, with_slot, with_slot_at}
@@ -63,6 +66,14 @@ slots_with_object s t e =
 pub slots_with_region : (s t : State) → new_region_change s ≡ Done t → length t.slots ≡ length s.slots + 1
 slots_with_region s t e =
     ap length (slots_of (making_refusal s) (with_slot (region_result s) (Some (value.Obj (next_object s)))) t e) ∙ one_more (region_result s) (Some (value.Obj (next_object s)))
+
+pub slots_with_cown : (s t : State) → 1 ≤ length s.slots → new_cown_change s ≡ Done t → length t.slots ≡ length s.slots
+slots_with_cown s t h e =
+    let made = made_result s (operand s 0) in
+    let w : Option Value = Some (value.Cown (next_cown s)) in
+    let same : length t.slots ≡ length (with_last 1 w made).slots =
+    ap length (slots_of (option_or (new_cown_refusal (without_last 1 s) (operand s 0)) (making_refusal s)) (with_last 1 w made) t e) in
+    omega (arith, same, one_more (without_last 1 made) w, fewer made 1 h)
 
 become : (s : State) (w : Option Value) → 2 ≤ length s.slots → length (with_last 2 w s).slots + 1 ≡ length s.slots
 become s w h = omega (arith, one_more (without_last 2 s) w, fewer s 2 h)

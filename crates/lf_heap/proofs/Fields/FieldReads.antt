@@ -13,6 +13,7 @@ use Rattle.lf_base.specs.WellFormed.{SlotMayHold, WellFormed}
 use Rattle.lf_domain.proofs.StoreEdges.{field_told, owner_told}
 use Rattle.lf_graph.specs.StoredRows.{AreRowsOf, CountedRow, field_value_at, owner_at}
 use Rattle.lf_laws.proofs.Changes.ReadValues.{read_may_be_held}
+use Rattle.lf_heap.specs.declared.contents.CownContents.{CownContents}
 use Rattle.lf_heap.specs.declared.frozen.FrozenParts.{FrozenParts}
 use Rattle.lf_heap.specs.Heaps.{heap_state}
 use Rattle.lf_heap.proofs.Fields.FrozenFields.{found_first, found_later}
@@ -28,10 +29,10 @@ no_row_at rows o e = by (row_at rows o) e where
   by None e = refl
   by (Some r) e = absurd (cc)
 
-module _ (birth objects : ℕ) (frozen : FrozenParts) (rows : List CountedRow) (slots : List (Option Value))
-    (a : AreRowsOf rows (heap_state birth objects frozen rows slots).rows) where
+module _ (birth objects : ℕ) (contents : CownContents) (frozen : FrozenParts) (rows : List CountedRow) (slots : List (Option Value))
+    (a : AreRowsOf rows (heap_state birth objects contents frozen rows slots).rows) where
   abbrev s : State
-  s = heap_state birth objects frozen rows slots
+  s = heap_state birth objects contents frozen rows slots
 
   -- a mutable row's field
   by_row : (o : ObjId) (k : Key) (w : Option Row) → is_some (row_owner w) ≡ true → row_at s.rows o ≡ w → field_of s o k ≡ row_field (row_at s.rows o) k

@@ -29,6 +29,7 @@ use Rattle.lf_settle.specs.WorkLists.{WorkList}
 use Rattle.lf_transfer.specs.Closing.{HoldsBridge, IsOpenedBy, LetsLoose, is_inner, is_let_loose}
 use Rattle.lf_transfer.proofs.Closings.ClosedSteps.{no_more_than_rows, ordered_length}
 use Rattle.lf_transfer.proofs.Closings.LooseSuspects.{loosened_noticed}
+use Rattle.lf_heap.specs.declared.contents.CownContents.{CownContents}
 use Rattle.lf_heap.specs.declared.frozen.FrozenParts.{FrozenParts}
 use Rattle.lf_heap.specs.Following.{Follows, closed_at}
 use Rattle.lf_heap.specs.Heaps.{HasParts, heap_state}
@@ -61,10 +62,10 @@ inner_owner o (Some u) e = (u, refl)
 pub written_back : (old new : List (Option Value)) (n : ℕ) → n ≡ length old → length new ≡ length old → take n (new ++ drop (length new) old) ≡ new
 written_back old new n many same = ap (λ k. take k (new ++ drop (length new) old)) (many ∙ sym same) ∙ take-append_seam new (drop (length new) old)
 
-module _ (birth objects : ℕ) (frozen : FrozenParts) (rows : List CountedRow) (slots : List (Option Value)) (regions : List Region) (most : ℕ)
-    (h : HasParts rows regions most (heap_state birth objects frozen rows slots)) where
+module _ (birth objects : ℕ) (contents : CownContents) (frozen : FrozenParts) (rows : List CountedRow) (slots : List (Option Value)) (regions : List Region) (most : ℕ)
+    (h : HasParts rows regions most (heap_state birth objects contents frozen rows slots)) where
   abbrev s : State
-  s = heap_state birth objects frozen rows slots
+  s = heap_state birth objects contents frozen rows slots
 
   pub opened : (seen : List (Option Value)) → seen ≡ slots → IsOpenedBy rows regions seen s
   opened seen same = record { domain = domain_of rows regions most s h; in_slots = sym same }
@@ -96,13 +97,13 @@ module _ (birth objects : ℕ) (frozen : FrozenParts) (rows : List CountedRow) (
         slots = omega (arith, same_length, h.slots);
       })
 
-      with_them : heap_state birth objects frozen next now ≡ stored_state t next
-      with_them = ap (heap_state birth objects frozen next) put
+      with_them : heap_state birth objects contents frozen next now ≡ stored_state t next
+      with_them = ap (heap_state birth objects contents frozen next) put
 
-      pub close_is : heap_state birth objects frozen next now ≡ t
+      pub close_is : heap_state birth objects contents frozen next now ≡ t
       close_is = with_them ∙ stored.is
 
-      pub close_parts : HasParts next table most (heap_state birth objects frozen next now)
+      pub close_parts : HasParts next table most (heap_state birth objects contents frozen next now)
       close_parts = subst (HasParts next table most) (sym with_them) stored.parts
 
     -- ---- what is noticed

@@ -25,6 +25,7 @@ use Rattle.lf_regions.specs.declared.region.Region.{Region as Entry}
 use Rattle.lf_settle.specs.Drops.{stored_state}
 use Rattle.lf_transfer.specs.Freezing.{AreFrozenIn, Freezing, IsFreezeOf, is_bare_region}
 use Rattle.lf_transfer.proofs.Freezes.BareRegions.{bare_noticed}
+use Rattle.lf_heap.specs.declared.contents.CownContents.{CownContents}
 use Rattle.lf_heap.specs.declared.frozen.FrozenParts.{FrozenParts}
 use Rattle.lf_heap.specs.Heaps.{HasParts, heap_state}
 use Rattle.lf_heap.proofs.States.StoredStates.{Reached, reached}
@@ -45,15 +46,15 @@ has_mapped [] row m = absurd m
 has_mapped (x ∷ xs) row (inl e) = ap (λ (y : FrozenRow). same_name y.id row.id || has_row (map as_row xs) row.id) e ∙ ap (λ b. b || has_row (map as_row xs) row.id) (same_name_itself row.id)
 has_mapped (x ∷ xs) row (inr m) = ap (λ b. same_name x.id row.id || b) (has_mapped xs row m) ∙ or-true (same_name x.id row.id)
 
-pub own_frozen : (birth objects : ℕ) (frozen : FrozenParts) (rows : List CountedRow) (slots : List (Option Value)) → AreFrozenIn (heap_state birth objects frozen rows slots) frozen.own
-own_frozen birth objects frozen rows slots row m =
+pub own_frozen : (birth objects : ℕ) (contents : CownContents) (frozen : FrozenParts) (rows : List CountedRow) (slots : List (Option Value)) → AreFrozenIn (heap_state birth objects contents frozen rows slots) frozen.own
+own_frozen birth objects contents frozen rows slots row m =
     ap (λ b. has_row (map as_row frozen.given) row.id || b) (has_mapped frozen.own row m) ∙ or-true (has_row (map as_row frozen.given) row.id)
 
-module _ (birth objects : ℕ) (frozen : FrozenParts) (rows : List CountedRow) (slots : List (Option Value)) (regions : List Entry) (most : ℕ)
-    (h : HasParts rows regions most (heap_state birth objects frozen rows slots)) (v : Value) (plan : Freezing)
-    (p : IsFreezeOf (heap_state birth objects frozen rows slots) frozen.own v plan) where
+module _ (birth objects : ℕ) (contents : CownContents) (frozen : FrozenParts) (rows : List CountedRow) (slots : List (Option Value)) (regions : List Entry) (most : ℕ)
+    (h : HasParts rows regions most (heap_state birth objects contents frozen rows slots)) (v : Value) (plan : Freezing)
+    (p : IsFreezeOf (heap_state birth objects contents frozen rows slots) frozen.own v plan) where
   abbrev s : State
-  s = heap_state birth objects frozen rows slots
+  s = heap_state birth objects contents frozen rows slots
 
   abbrev t : State
   t = freeze_result s v
@@ -71,13 +72,13 @@ module _ (birth objects : ℕ) (frozen : FrozenParts) (rows : List CountedRow) (
       slots = h.slots;
     })
 
-    with_own : heap_state birth objects later next slots ≡ stored_state t next
-    with_own = ap (λ rs. record (heap_state birth objects frozen next slots) { own = rs }) (ap (map as_row) planned ∙ p.frozen)
+    with_own : heap_state birth objects contents later next slots ≡ stored_state t next
+    with_own = ap (λ rs. record (heap_state birth objects contents frozen next slots) { own = rs }) (ap (map as_row) planned ∙ p.frozen)
 
-    pub freeze_is : heap_state birth objects later next slots ≡ t
+    pub freeze_is : heap_state birth objects contents later next slots ≡ t
     freeze_is = with_own ∙ stored.is
 
-    pub freeze_parts : HasParts next table most (heap_state birth objects later next slots)
+    pub freeze_parts : HasParts next table most (heap_state birth objects contents later next slots)
     freeze_parts = subst (HasParts next table most) (sym with_own) stored.parts
 
   -- ---- the regions that are left bare

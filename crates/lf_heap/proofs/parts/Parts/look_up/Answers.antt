@@ -9,7 +9,7 @@ pub returns-then-is_some-clause-value : goal.returns-then-is_some-clause-value
 returns-then-is_some-clause-value g c =
     let h = c.self.inside in
     c.field.ensures.value
-    ∙ sym (field_is h.birth h.objects h.frozen (g.S.Store.rows h.store) h.slots.items (((c.self.invariant.counted).counts).store).rows c.args.o c.args.key c.owner.result c.owner.ensures.owner
+    ∙ sym (field_is h.birth h.objects h.contents h.frozen (g.S.Store.rows h.store) h.slots.items (((c.self.invariant.counted).counts).store).rows c.args.o c.args.key c.owner.result c.owner.ensures.owner
     (sym c.is_some.ensures ∙ c.if-is_some.true))
     ∙ ap (λ (d : Domain). field_of d.state c.args.o c.args.key) c.self.view_is
 
@@ -22,7 +22,7 @@ pub returns-clause-value : goal.returns-clause-value
 returns-clause-value g c =
     let h = c.self.inside in
     c.frozen_field.ensures
-    ∙ sym (frozen_field_is h.birth h.objects h.frozen (g.S.Store.rows h.store) h.slots.items (((c.self.invariant.counted).counts).store).rows c.args.o c.args.key c.owner.result c.owner.ensures.owner
+    ∙ sym (frozen_field_is h.birth h.objects h.contents h.frozen (g.S.Store.rows h.store) h.slots.items (((c.self.invariant.counted).counts).store).rows c.args.o c.args.key c.owner.result c.owner.ensures.owner
     (sym c.is_some.ensures ∙ c.if-is_some.false))
     ∙ ap (λ (d : Domain). field_of d.state c.args.o c.args.key) c.self.view_is
 

@@ -14,21 +14,21 @@ pub plan_merge-planned-requires-clause-domain : goal.plan_merge-planned-requires
 plan_merge-planned-requires-clause-domain g c κs within =
     let h = c.self.inside in
     let rows = g.S.Store.rows h.store in
-    let s = heap_state h.birth h.objects h.frozen rows h.slots.items in
+    let s = heap_state h.birth h.objects h.contents h.frozen rows h.slots.items in
     (s, domain_of rows h.regions h.cells s c.self.invariant)
 
 pub invariant_of-self : goal.invariant_of-self
 invariant_of-self g c =
     let h = c.self.inside in
     let rows = g.S.Store.rows h.store in
-    let s = heap_state h.birth h.objects h.frozen rows h.slots.items in
+    let s = heap_state h.birth h.objects h.contents h.frozen rows h.slots.items in
     (same_reached rows h.regions h.cells s c.self.invariant (g.S.Store.rows c.plan_merge-planned.new.store) c.plan_merge-planned.ensures.rows).parts
 
 pub returns-in-Err-clause-answer : goal.returns-in-Err-clause-answer
 returns-in-Err-clause-answer g c =
     let h = c.self.inside in
     let rows = g.S.Store.rows h.store in
-    let s = heap_state h.birth h.objects h.frozen rows h.slots.items in
+    let s = heap_state h.birth h.objects h.contents h.frozen rows h.slots.items in
     subst (λ (d : Domain). FailsAs (merge_refusal d.state c.args.a c.args.b) c.in-Err.fail) c.self.view_is
     (c.in-Err.ensures.answer s (domain_of rows h.regions h.cells s c.self.invariant))
 
@@ -36,7 +36,7 @@ pub returns-in-Err-clause-unchanged : goal.returns-in-Err-clause-unchanged
 returns-in-Err-clause-unchanged g c =
     let h = c.self.inside in
     let rows = g.S.Store.rows h.store in
-    let s = heap_state h.birth h.objects h.frozen rows h.slots.items in
+    let s = heap_state h.birth h.objects h.contents h.frozen rows h.slots.items in
     (same_reached rows h.regions h.cells s c.self.invariant (g.S.Store.rows c.plan_merge-planned.new.store) c.plan_merge-planned.ensures.rows).is
     ∙ ap (λ (d : Domain). d.state) c.self.view_is
 
@@ -44,23 +44,23 @@ pub apply_merge-requires-clause-planned : goal.apply_merge-requires-clause-plann
 apply_merge-requires-clause-planned g c κs within =
     let h = c.self.inside in
     let rows = g.S.Store.rows h.store in
-    let s = heap_state h.birth h.objects h.frozen rows h.slots.items in
+    let s = heap_state h.birth h.objects h.contents h.frozen rows h.slots.items in
     let now = g.S.Store.rows c.plan_merge-planned.new.store in
     let held = same_reached rows h.regions h.cells s c.self.invariant now c.plan_merge-planned.ensures.rows in
-    let domain = subst (IsDomain now h.regions) held.is (domain_of now h.regions h.cells (heap_state h.birth h.objects h.frozen now h.slots.items) held.parts) in
+    let domain = subst (IsDomain now h.regions) held.is (domain_of now h.regions h.cells (heap_state h.birth h.objects h.contents h.frozen now h.slots.items) held.parts) in
     (s, (domain, c.in-Ok.ensures.plan s (domain_of rows h.regions h.cells s c.self.invariant)))
 
 after : (g : _) (c : goal.After-note g)
     → Reached (g.S.Store.rows c.apply_merge.new.store) c.apply_merge.new.regions c.self.inside.cells
-    (merge_result (heap_state c.self.inside.birth c.self.inside.objects c.self.inside.frozen (g.S.Store.rows c.self.inside.store) c.self.inside.slots.items) c.in-Ok.plan.into c.in-Ok.plan.from)
+    (merge_result (heap_state c.self.inside.birth c.self.inside.objects c.self.inside.contents c.self.inside.frozen (g.S.Store.rows c.self.inside.store) c.self.inside.slots.items) c.in-Ok.plan.into c.in-Ok.plan.from)
 after g c =
     let h = c.self.inside in
     let rows = g.S.Store.rows h.store in
-    let s = heap_state h.birth h.objects h.frozen rows h.slots.items in
+    let s = heap_state h.birth h.objects h.contents h.frozen rows h.slots.items in
     let now = g.S.Store.rows c.plan_merge-planned.new.store in
     let held = same_reached rows h.regions h.cells s c.self.invariant now c.plan_merge-planned.ensures.rows in
     let before = domain_of rows h.regions h.cells s c.self.invariant in
-    let domain = subst (IsDomain now h.regions) held.is (domain_of now h.regions h.cells (heap_state h.birth h.objects h.frozen now h.slots.items) held.parts) in
+    let domain = subst (IsDomain now h.regions) held.is (domain_of now h.regions h.cells (heap_state h.birth h.objects h.contents h.frozen now h.slots.items) held.parts) in
     merge_reached rows h.regions h.cells s c.self.invariant c.args.a c.args.b c.in-Ok.plan.into c.in-Ok.plan.from (c.in-Ok.ensures.into s before) (c.in-Ok.ensures.from s before)
     (c.in-Ok.ensures.answer s before) (g.S.Store.rows c.apply_merge.new.store) c.apply_merge.new.regions (c.apply_merge.ensures.counts s domain (c.in-Ok.ensures.plan s before))
 
@@ -71,7 +71,7 @@ pub returns-clause-answer : goal.returns-clause-answer
 returns-clause-answer g c =
     let h = c.self.inside in
     let rows = g.S.Store.rows h.store in
-    let s = heap_state h.birth h.objects h.frozen rows h.slots.items in
+    let s = heap_state h.birth h.objects h.contents h.frozen rows h.slots.items in
     subst (λ (d : Domain). merge_refusal d.state c.args.a c.args.b ≡ None) c.self.view_is
     (c.in-Ok.ensures.answer s (domain_of rows h.regions h.cells s c.self.invariant))
 
@@ -79,7 +79,7 @@ pub returns-clause-state : goal.returns-clause-state
 returns-clause-state g c =
     let h = c.self.inside in
     let rows = g.S.Store.rows h.store in
-    let s = heap_state h.birth h.objects h.frozen rows h.slots.items in
+    let s = heap_state h.birth h.objects h.contents h.frozen rows h.slots.items in
     let before = domain_of rows h.regions h.cells s c.self.invariant in
     (after g c).is ∙ merged_is s c.args.a c.args.b c.in-Ok.plan.into c.in-Ok.plan.from (c.in-Ok.ensures.into s before) (c.in-Ok.ensures.from s before)
     ∙ ap (λ (d : Domain). merged_by (bridge_of d.state c.args.a) (bridge_of d.state c.args.b) d.state) c.self.view_is
@@ -88,9 +88,9 @@ pub returns-clause-follows : goal.returns-clause-follows
 returns-clause-follows g c =
     let h = c.self.inside in
     let rows = g.S.Store.rows h.store in
-    let s = heap_state h.birth h.objects h.frozen rows h.slots.items in
+    let s = heap_state h.birth h.objects h.contents h.frozen rows h.slots.items in
     let before = domain_of rows h.regions h.cells s c.self.invariant in
-    let end = heap_state h.birth h.objects h.frozen (g.S.Store.rows c.apply_merge.new.store) h.slots.items in
+    let end = heap_state h.birth h.objects h.contents h.frozen (g.S.Store.rows c.apply_merge.new.store) h.slots.items in
     subst (λ (d : Domain). Follows d.state end c.args.work.now c.note.new.work 1) c.self.view_is
     (subst (λ u. Follows s u c.args.work.now c.note.new.work 1) (sym (after g c).is)
     (merge_follows rows h.regions h.cells s c.self.invariant c.args.a c.args.b c.in-Ok.plan.into c.in-Ok.plan.from (c.in-Ok.ensures.into s before) (c.in-Ok.ensures.from s before)

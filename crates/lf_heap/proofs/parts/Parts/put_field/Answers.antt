@@ -16,7 +16,7 @@ pub plan_write-planned-requires-clause-asked : goal.plan_write-planned-requires-
 plan_write-planned-requires-clause-asked g c κs within =
     let h = c.self.inside in
     let rows = g.S.Store.rows h.store in
-    let s = heap_state h.birth h.objects h.frozen rows h.slots.items in
+    let s = heap_state h.birth h.objects h.contents h.frozen rows h.slots.items in
     let view = ap (λ (d : Domain). d.state) c.self.view_is in
     let in_slot = subst (λ t. InSlot t c.args.o) (sym view) c.requires.named in
     let may = subst (λ t. SlotMayHold t c.args.v) (sym view) c.requires.may in
@@ -27,7 +27,7 @@ pub invariant_of-self : goal.invariant_of-self
 invariant_of-self g c =
     let h = c.self.inside in
     let rows = g.S.Store.rows h.store in
-    let s = heap_state h.birth h.objects h.frozen rows h.slots.items in
+    let s = heap_state h.birth h.objects h.contents h.frozen rows h.slots.items in
     let now = g.S.Store.rows c.plan_write-planned.new.store in
     let held = same_reached rows h.regions h.cells s c.self.invariant now c.plan_write-planned.ensures.rows in
     held.parts
@@ -36,7 +36,7 @@ pub returns-in-Err-clause-answer : goal.returns-in-Err-clause-answer
 returns-in-Err-clause-answer g c =
     let h = c.self.inside in
     let rows = g.S.Store.rows h.store in
-    let s = heap_state h.birth h.objects h.frozen rows h.slots.items in
+    let s = heap_state h.birth h.objects h.contents h.frozen rows h.slots.items in
     let view = ap (λ (d : Domain). d.state) c.self.view_is in
     let in_slot = subst (λ t. InSlot t c.args.o) (sym view) c.requires.named in
     let may = subst (λ t. SlotMayHold t c.args.v) (sym view) c.requires.may in
@@ -47,7 +47,7 @@ pub returns-in-Err-clause-unchanged : goal.returns-in-Err-clause-unchanged
 returns-in-Err-clause-unchanged g c =
     let h = c.self.inside in
     let rows = g.S.Store.rows h.store in
-    let s = heap_state h.birth h.objects h.frozen rows h.slots.items in
+    let s = heap_state h.birth h.objects h.contents h.frozen rows h.slots.items in
     let now = g.S.Store.rows c.plan_write-planned.new.store in
     let held = same_reached rows h.regions h.cells s c.self.invariant now c.plan_write-planned.ensures.rows in
     let view = ap (λ (d : Domain). d.state) c.self.view_is in
@@ -57,7 +57,7 @@ pub apply_write-old-requires-clause-planned : goal.apply_write-old-requires-clau
 apply_write-old-requires-clause-planned g c κs within =
     let h = c.self.inside in
     let rows = g.S.Store.rows h.store in
-    let s = heap_state h.birth h.objects h.frozen rows h.slots.items in
+    let s = heap_state h.birth h.objects h.contents h.frozen rows h.slots.items in
     let view = ap (λ (d : Domain). d.state) c.self.view_is in
     let in_slot = subst (λ t. InSlot t c.args.o) (sym view) c.requires.named in
     let may = subst (λ t. SlotMayHold t c.args.v) (sym view) c.requires.may in
@@ -66,16 +66,16 @@ apply_write-old-requires-clause-planned g c κs within =
     let held = same_reached rows h.regions h.cells s c.self.invariant now c.plan_write-planned.ensures.rows in
     let plan = c.in-Ok.plan in
     let is_plan = c.in-Ok.ensures.plan s asked in
-    let domain = subst (IsDomain now h.regions) held.is (domain_of now h.regions h.cells (heap_state h.birth h.objects h.frozen now h.slots.items) held.parts) in
+    let domain = subst (IsDomain now h.regions) held.is (domain_of now h.regions h.cells (heap_state h.birth h.objects h.contents h.frozen now h.slots.items) held.parts) in
     (s, (domain, is_plan))
 
 after : (g : _) (c : goal.After-note g)
     → Reached (g.S.Store.rows c.apply_write-old.new.store) c.apply_write-old.new.regions (c.self.inside.cells + 1)
-    (write_result (heap_state c.self.inside.birth c.self.inside.objects c.self.inside.frozen (g.S.Store.rows c.self.inside.store) c.self.inside.slots.items) c.args.o c.args.key c.args.v)
+    (write_result (heap_state c.self.inside.birth c.self.inside.objects c.self.inside.contents c.self.inside.frozen (g.S.Store.rows c.self.inside.store) c.self.inside.slots.items) c.args.o c.args.key c.args.v)
 after g c =
     let h = c.self.inside in
     let rows = g.S.Store.rows h.store in
-    let s = heap_state h.birth h.objects h.frozen rows h.slots.items in
+    let s = heap_state h.birth h.objects h.contents h.frozen rows h.slots.items in
     let view = ap (λ (d : Domain). d.state) c.self.view_is in
     let in_slot = subst (λ t. InSlot t c.args.o) (sym view) c.requires.named in
     let may = subst (λ t. SlotMayHold t c.args.v) (sym view) c.requires.may in
@@ -84,7 +84,7 @@ after g c =
     let held = same_reached rows h.regions h.cells s c.self.invariant now c.plan_write-planned.ensures.rows in
     let plan = c.in-Ok.plan in
     let is_plan = c.in-Ok.ensures.plan s asked in
-    let domain = subst (IsDomain now h.regions) held.is (domain_of now h.regions h.cells (heap_state h.birth h.objects h.frozen now h.slots.items) held.parts) in
+    let domain = subst (IsDomain now h.regions) held.is (domain_of now h.regions h.cells (heap_state h.birth h.objects h.contents h.frozen now h.slots.items) held.parts) in
     write_reached rows h.regions h.cells s c.self.invariant c.args.o c.args.key c.args.v may plan c.in-Ok.ensures.target c.in-Ok.ensures.key c.in-Ok.ensures.value is_plan
     (g.S.Store.rows c.apply_write-old.new.store) c.apply_write-old.new.regions (c.apply_write-old.ensures.counts s domain is_plan) (omega (arith, c.if-self-ge-MOST_CELLS.false))
 
@@ -95,7 +95,7 @@ pub returns-clause-answer : goal.returns-clause-answer
 returns-clause-answer g c =
     let h = c.self.inside in
     let rows = g.S.Store.rows h.store in
-    let s = heap_state h.birth h.objects h.frozen rows h.slots.items in
+    let s = heap_state h.birth h.objects h.contents h.frozen rows h.slots.items in
     let view = ap (λ (d : Domain). d.state) c.self.view_is in
     let in_slot = subst (λ t. InSlot t c.args.o) (sym view) c.requires.named in
     let may = subst (λ t. SlotMayHold t c.args.v) (sym view) c.requires.may in
@@ -109,7 +109,7 @@ pub returns-clause-follows : goal.returns-clause-follows
 returns-clause-follows g c =
     let h = c.self.inside in
     let rows = g.S.Store.rows h.store in
-    let s = heap_state h.birth h.objects h.frozen rows h.slots.items in
+    let s = heap_state h.birth h.objects h.contents h.frozen rows h.slots.items in
     let view = ap (λ (d : Domain). d.state) c.self.view_is in
     let in_slot = subst (λ t. InSlot t c.args.o) (sym view) c.requires.named in
     let may = subst (λ t. SlotMayHold t c.args.v) (sym view) c.requires.may in
@@ -118,8 +118,8 @@ returns-clause-follows g c =
     let held = same_reached rows h.regions h.cells s c.self.invariant now c.plan_write-planned.ensures.rows in
     let plan = c.in-Ok.plan in
     let is_plan = c.in-Ok.ensures.plan s asked in
-    let domain = subst (IsDomain now h.regions) held.is (domain_of now h.regions h.cells (heap_state h.birth h.objects h.frozen now h.slots.items) held.parts) in
-    let end = heap_state h.birth h.objects h.frozen (g.S.Store.rows c.apply_write-old.new.store) h.slots.items in
+    let domain = subst (IsDomain now h.regions) held.is (domain_of now h.regions h.cells (heap_state h.birth h.objects h.contents h.frozen now h.slots.items) held.parts) in
+    let end = heap_state h.birth h.objects h.contents h.frozen (g.S.Store.rows c.apply_write-old.new.store) h.slots.items in
     let was = subst (λ i. c.apply_write-old.result ≡ row_field (row_at s.rows c.args.o) i) c.in-Ok.ensures.key
     (subst (λ x. c.apply_write-old.result ≡ row_field (row_at s.rows x) plan.key) c.in-Ok.ensures.target (c.apply_write-old.ensures.value s domain)) in
     subst (λ u. Follows u end c.args.work.now c.note.new.work 1) view
