@@ -1,0 +1,5 @@
+pub mod Heads
+pub mod Parcels
+pub mod Contents
+pub mod Packed
+pub mod TreeRows
