@@ -5,6 +5,7 @@ mod content;
 mod heads;
 pub mod laws;
 mod parcel;
+mod spots;
 
 pub use content::{Content, Released};
 pub use heads::RegionHead;

@@ -45,7 +45,7 @@ region_rows_there qs stored c q m n e = Member_flat_map (λ q. rows_of (In q) st
 one_region : (r q : ObjId) → In r ≡ In q → r ≡ q
 one_region r q e = cc
 
-plain_names : (xs ys : List CountedRow) → names (plain (xs ++ ys)) ≡ names (plain xs) ++ names (plain ys)
+pub plain_names : (xs ys : List CountedRow) → names (plain (xs ++ ys)) ≡ names (plain xs) ++ names (plain ys)
 plain_names [] ys = refl
 plain_names (x ∷ xs) ys = ap (λ l. (x.row).name ∷ l) (plain_names xs ys)
 
