@@ -32,7 +32,13 @@ owning_region (x ∷ xs) q = option_or (owner_by_row q x) (owning_region xs q)
 
 -- what is told of region q of a closed tree: nothing borrows it, and no region below it is open
 abbrev pub region_head : List Row → ObjId → RegionHead
-region_head rows q = record { name = q; owner = owning_region rows q; borrowed = 0; open_children = 0; rows = length (filter (lies_in q) rows) }
+region_head rows q = record {
+  name = q;
+  owner = owning_region rows q;
+  borrowed = 0;
+  open_children = 0;
+  rows = length (filter (lies_in q) rows);
+}
 
 -- what is told of all of them, by rising name
 abbrev pub region_heads : List Row → List RegionHead

@@ -9,7 +9,7 @@ use Rattle.lf_base.specs.Owners.{is_bridge}
 use Rattle.lf_base.specs.PlainState.{Row}
 use Rattle.lf_base.specs.Sets.{Member}
 use Rattle.lf_base.specs.WholeContents.{StandsAlone}
-use Rattle.lf_graph.specs.StoredRows.{AreRowsOf, CountedRow, HasRow, refs_at}
+use Rattle.lf_graph.specs.StoredRows.{AreRowsOf, CountedRow, HasRow, plain, refs_at, rows_by_name}
 use Rattle.lf_parcel.specs.declared.heads.RegionHead.{RegionHead}
 use Rattle.lf_parcel.specs.Heads.{bridges_in, region_heads}
 
@@ -35,6 +35,10 @@ parts_seen region_of rows_of parts = map (λ part. record { region = region_of p
 -- the rows of all parts
 abbrev pub rows_of_parts : List StoredRegion → List CountedRow
 rows_of_parts parts = flat_map (λ part. part.rows) parts
+
+-- the same by rising name, without their counts
+abbrev pub rows_seen : List StoredRegion → List Row
+rows_seen parts = rows_by_name (plain (rows_of_parts parts))
 
 -- the names of their regions
 abbrev pub regions_of_parts : List StoredRegion → List ObjId

@@ -49,7 +49,10 @@ MayHaveOrder parts order rows = (order ≡ []) ⊎ IsRowOrder parts order rows
 -- the name that was found is the least one above that one
 abbrev pub IsLeastAbove : List ObjId → Option ObjId → Option ObjId → Type 0
 IsLeastAbove os after None = (o : ObjId) → Member o os → comes_after after o ≡ false
-IsLeastAbove os after (Some least) = Member least os × ((comes_after after least ≡ true) × ((o : ObjId) → Member o os → comes_after after o ≡ true → name_below o least ≡ false))
+IsLeastAbove os after (Some least) =
+    Member least os
+    × ((comes_after after least ≡ true)
+    × ((o : ObjId) → Member o os → comes_after after o ≡ true → name_below o least ≡ false))
 
 -- the lesser one of two names, where both are there
 abbrev pub lesser_name : Option ObjId → Option ObjId → Option ObjId
@@ -78,6 +81,7 @@ IsSpotAt parts rows at None = slice_get (names rows) at ≡ None
 IsSpotAt parts rows at (Some spot) = Leads parts spot × (slice_get (names rows) at ≡ Some (spot.name))
 
 -- what a parcel keeps
-pub record KeepsParcel (told : List RegionHead) (parts : List StoredRegion) (spots : List Spot) (root : ObjId) (rows : List Row) : Type 0 where
+pub record KeepsParcel (told : List RegionHead) (parts : List StoredRegion) (spots : List Spot) (root : ObjId)
+    (rows : List Row) : Type 0 where
   pub parcel : IsParcel told parts root rows
   pub order : MayHaveOrder parts spots rows

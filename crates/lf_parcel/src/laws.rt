@@ -35,7 +35,8 @@ pub fn parcels_are_packed()
 /// behaviour begins: the same rows, and the same counts.
 pub fn parts_make_the_beginning()
     ensures { (birth : ℕ) (frozen : List Row) (ps : List Packed) → EachPacked ps → MayBegin birth (packed_contents ps) frozen
-        → IsStoreOf (all_stored ps) (stored birth (packed_contents ps) frozen).rows (near_edges (stored birth (packed_contents ps) frozen)) }
+        → IsStoreOf (all_stored ps) (stored birth (packed_contents ps) frozen).rows
+        (near_edges (stored birth (packed_contents ps) frozen)) }
 {}
 
 /// The rows of a tree's regions, taken out of an ended state's store, are the rows that

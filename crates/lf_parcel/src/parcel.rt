@@ -22,15 +22,15 @@ pub struct Parcel<S: Store> {
 }
 
 impl<S: Store> Model for Parcel<S> {
-    ghost use Rattle.lf_graph.specs.StoredRows.{plain, rows_by_name};
-    ghost use Rattle.lf_parcel.specs.Parcels.{RegionTree, parts_seen, rows_of_parts};
+    ghost use Rattle.lf_parcel.specs.Parcels.{RegionTree, parts_seen, rows_seen};
     ghost use Rattle.lf_parcel.specs.Spots.{KeepsParcel};
 
     ghost Value = { RegionTree };
 
-    ghost view = { λ p. record { root = p.root; rows = rows_by_name (plain (rows_of_parts (parts_seen S.part_region S.part_rows p.parts.items))) } };
+    ghost view = { λ p. record { root = p.root; rows = rows_seen (parts_seen S.part_region S.part_rows p.parts.items) } };
 
-    ghost invariant = { λ p. KeepsParcel p.heads (parts_seen S.part_region S.part_rows p.parts.items) p.order.items p.root (rows_by_name (plain (rows_of_parts (parts_seen S.part_region S.part_rows p.parts.items)))) };
+    ghost invariant = { λ p. KeepsParcel p.heads (parts_seen S.part_region S.part_rows p.parts.items) p.order.items p.root
+        (rows_seen (parts_seen S.part_region S.part_rows p.parts.items)) };
 }
 
 impl<S: Store> Parcel<S> {

@@ -124,7 +124,8 @@ pub(crate) fn field_at<S: Store>(parts: &[S::Part], spot: Spot, field: u32) -> O
 // looks at all rows.
 fn least_above<S: Store>(parts: &[S::Part], after: Option<ObjId>) -> Option<Spot>
     requires parts { ArePartsOfRegions (parts_seen S.part_region S.part_rows parts.now) }
-    ensures { LeastOfParts (parts_seen S.part_region S.part_rows parts.now) (rows_of_parts (parts_seen S.part_region S.part_rows parts.now)) after result }
+    ensures { LeastOfParts (parts_seen S.part_region S.part_rows parts.now)
+        (rows_of_parts (parts_seen S.part_region S.part_rows parts.now)) after result }
 {
     let mut least = None;
     for place in 0..parts.len() {
